@@ -1,7 +1,136 @@
+// Fields of a byte buffer: little-endian numbers of 4 and 8 bytes, bytes copied into a lent part, zeros, and the test of a magic.
+// Every public function is total: what lies outside the buffer is neither read nor written, and its contract says so by one
+// equation with a definition of specs/Bytes.antt or with `sets`, which stores what lies inside a list and ignores the rest.
 pub mod numbers;
+
+ghost use mathlib.Core.Path.{_≡_};
+ghost use Prim.Native.Nat.{_-_, _^_, _≤_, _<_, min};
+ghost use lib.ListN.{take, drop, replicate};
+ghost use lib.Seq.{sets};
+ghost use Rattle.fields.specs.Bytes.{leOf, bytesOf, starts};
 
 // A transaction's number. It is never accepted as a time.
 pub struct TransactionId(pub u64);
 
 // A commit's time. It is never accepted as a transaction's number.
 pub struct CommitTime(pub u64);
+
+fn wide(x: u8) -> u64
+    ensures { λ r. ⌜ r ≡ x ⌝ }
+{
+    x as u64
+}
+
+// How many of n bytes from `at` on lie inside len bytes.
+fn inside(len: usize, at: usize, n: usize) -> usize
+    ensures { λ r. ⌜ r ≡ min n (len - at) ⌝ }
+{
+    if len <= at {
+        return 0;
+    }
+    let left = len - at;
+    if left < n { left } else { n }
+}
+
+// The number in the n bytes from `at` on, the last byte first.
+fn get(b: &[u8], at: usize, n: usize) -> u64
+    requires { ⌜ n ≤ 8 ⌝ }
+    ensures { λ r. ⌜ (r ≡ leOf (take n (drop at (now (b .entry))))) × (r < 256 ^ n) ⌝ }
+{
+    let mut v: u64 = 0;
+    let mut i = inside(b.len(), at, n);
+    while 0 < i {
+        i -= 1;
+        v = v * 256 + wide(b[at + i]);
+    }
+    v
+}
+
+// The n low bytes of v, from `at` on.
+fn put(b: &mut [u8], at: usize, n: usize, v: u64)
+    ensures { λ _. ⌜ now (b .exit) ≡ sets (now (b .entry)) at (bytesOf n v) ⌝ }
+{
+    let k = inside(b.len(), at, n);
+    let mut rest = v;
+    let mut i = 0;
+    while i < k {
+        b[at + i] = (rest % 256) as u8;
+        rest = rest / 256;
+        i += 1;
+    }
+}
+
+pub fn get_u32(b: &[u8], at: usize) -> u32
+    ensures { λ r. ⌜ r ≡ leOf (take 4 (drop at (now (b .entry)))) ⌝ }
+{
+    get(b, at, 4) as u32
+}
+
+pub fn get_u64(b: &[u8], at: usize) -> u64
+    ensures { λ r. ⌜ r ≡ leOf (take 8 (drop at (now (b .entry)))) ⌝ }
+{
+    get(b, at, 8)
+}
+
+pub fn put_u32(b: &mut [u8], at: usize, v: u32)
+    ensures { λ _. ⌜ now (b .exit) ≡ sets (now (b .entry)) at (bytesOf 4 v) ⌝ }
+{
+    put(b, at, 4, v as u64)
+}
+
+pub fn put_u64(b: &mut [u8], at: usize, v: u64)
+    ensures { λ _. ⌜ now (b .exit) ≡ sets (now (b .entry)) at (bytesOf 8 v) ⌝ }
+{
+    put(b, at, 8, v)
+}
+
+// src over the front of dst.
+pub fn copy(dst: &mut [u8], src: &[u8])
+    ensures { λ _. ⌜ now (dst .exit) ≡ sets (now (dst .entry)) 0 (now (src .entry)) ⌝ }
+{
+    let k = inside(dst.len(), 0, src.len());
+    let mut i = 0;
+    while i < k {
+        dst[i] = src[i];
+        i += 1;
+    }
+}
+
+// src from `at` on: the part of the buffer from there on is lent to the copy.
+pub fn lay(b: &mut [u8], at: usize, src: &[u8])
+    ensures { λ _. ⌜ now (b .exit) ≡ sets (now (b .entry)) at (now (src .entry)) ⌝ }
+{
+    if b.len() < at {
+        return;
+    }
+    copy(&mut b[at..], src);
+}
+
+// Zeros from `from` up to `to`; none where `to` is not past `from`.
+pub fn zero_fill(b: &mut [u8], from: usize, to: usize)
+    ensures { λ _. ⌜ now (b .exit) ≡ sets (now (b .entry)) from (replicate (to - from) 0) ⌝ }
+{
+    let end = inside(b.len(), 0, to);
+    let mut i = from;
+    while i < end {
+        b[i] = 0;
+        i += 1;
+    }
+}
+
+// Whether s begins with m.
+pub fn begins(m: &[u8], s: &[u8]) -> bool
+    ensures { λ r. ⌜ r ≡ starts (now (m .entry)) (now (s .entry)) ⌝ }
+{
+    let mut i = 0;
+    while i < m.len() {
+        if s.len() <= i {
+            return false;
+        }
+        if s[i] != m[i] {
+            return false;
+        }
+        i += 1;
+    }
+    true
+}
