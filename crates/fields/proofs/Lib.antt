@@ -3,4 +3,5 @@ pub mod Tests
 pub mod ByteLaws
 pub mod Stored
 pub mod FileLaws
+pub mod AnswerLaws
 pub mod Vectors

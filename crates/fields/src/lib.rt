@@ -15,6 +15,12 @@ pub struct TransactionId(pub u64);
 // A commit's time. It is never accepted as a transaction's number.
 pub struct CommitTime(pub u64);
 
+// What a call on one file answers: the file's length after it, or the number of its refusal.
+pub enum Answer {
+    Accepted(usize),
+    Refused(u8),
+}
+
 fn wide(x: u8) -> u64
     ensures { λ r. ⌜ r ≡ x ⌝ }
 {
