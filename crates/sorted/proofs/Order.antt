@@ -1,15 +1,16 @@
 -- Laws of ascending lists as lists, for any element and any key: what an insertion does to the order, to what is looked up, to the size and to the members;
 -- several insertions in order; a change that leaves the keys.
 -- Assumes nothing.
-use Prim.Native.Nat.{ℕ, suc, _+_, _≤_, _<_}
+use Prim.Native.Nat.{ℕ, zero, suc, _+_, _≤_, _<_}
+use native.Mathlib.Nat.{le-of-suc-le-suc, not-suc-le-zero}
 use native.Mathlib.Omega.{arith}
 use mathlib.Core.Path.{_≡_, refl, sym, ap, _∙_}
 use mathlib.Core.Logic.{_⊎_, inl, inr, ⊎-elim}
 use mathlib.Core.List.{List, [], _∷_, _++_, map, List·Memᴰ, List·Memᴰ·head, List·Memᴰ·tail, List·Memᴰ·not-nil, List·Memᴰ·cases-cons}
 use mathlib.Core.Bool.{Bool, true, false, cond, _&&_}
-use lib.ListN.{length}
+use lib.ListN.{length, getD}
 use lib.Dec.{ltb, eqb}
-use borrow.Author.Tests.{lt-ltb, eq-eqb, ne-eqb, ltb-true, ltb-false, eqb-true, eqb-false}
+use borrow.Author.Tests.{lt-ltb, le-ltb, eq-eqb, ne-eqb, ltb-true, ltb-false, eqb-true, eqb-false}
 use Rattle.sorted.specs.Sorted.{Hit, miss, hit, orHit, mapHit, insertBy, insertAllBy, lookBy, belowBy, ascendingBy}
 
 both : {a b : Bool} → a ≡ true → b ≡ true → (a && b) ≡ true
@@ -73,6 +74,31 @@ module _ {A : Type 0} (key : A → ℕ) where
           let n : key x ≡ key e → ⊥ = eqb-false _ _ q in
           let m : key e ≤ key x = ltb-false _ _ p in
           ascending-cons e (x ∷ l) (lt-ltb (key e) (key x) (omega arith)) h
+
+  below-all : (k : ℕ) (l : List A) (d : A) (i : ℕ) → belowBy key k l ≡ true → ascendingBy key l ≡ true → i < length l → k < key (getD l i d)
+  below-all k [] d i b a p = absurd (not-suc-le-zero p)
+  below-all k (x ∷ l) d zero b a p = ltb-true _ _ b
+  below-all k (x ∷ l) d (suc i) b a p =
+      below-all k l d i (below-less k (key x) l (ltb-true _ _ b) (ascending-head x l a)) (ascending-tail x l a) (le-of-suc-le-suc p)
+
+  -- of two elements of an ascending list the later one has the larger key
+  pub ascending-less : (l : List A) (d : A) (i j : ℕ) → ascendingBy key l ≡ true → i < j → j < length l → key (getD l i d) < key (getD l j d)
+  ascending-less [] d i j a p q = absurd (not-suc-le-zero q)
+  ascending-less (x ∷ l) d i zero a p q = absurd (not-suc-le-zero p)
+  ascending-less (x ∷ l) d zero (suc j) a p q = below-all (key x) l d j (ascending-head x l a) (ascending-tail x l a) (le-of-suc-le-suc q)
+  ascending-less (x ∷ l) d (suc i) (suc j) a p q = ascending-less l d i j (ascending-tail x l a) (le-of-suc-le-suc p) (le-of-suc-le-suc q)
+
+  -- of two insertions at one key the last one stands
+  pub insert-again : (d e : A) (l : List A) → key d ≡ key e → insertBy key e (insertBy key d l) ≡ insertBy key e l
+  unfolding insertBy
+  insert-again d e [] h = rw (h, le-ltb (key e) (key e) (omega arith), eq-eqb (key e) (key e) refl)
+  insert-again d e (x ∷ l) h = rw h (go (ltb (key x) (key e)) (eqb (key x) (key e)) refl (insert-again d e l h))
+    where
+      go : (b c : Bool) → ltb (key x) (key e) ≡ b → insertBy key e (insertBy key d l) ≡ insertBy key e l →
+          insertBy key e (cond b (x ∷ insertBy key d l) (cond c (d ∷ l) (d ∷ x ∷ l))) ≡ cond b (x ∷ insertBy key e l) (cond c (e ∷ l) (e ∷ x ∷ l))
+      go true c p ih = rw p (ap (λ (m : List A). x ∷ m) ih)
+      go false true p ih = rw (h, le-ltb (key e) (key e) (omega arith), eq-eqb (key e) (key e) refl)
+      go false false p ih = rw (h, le-ltb (key e) (key e) (omega arith), eq-eqb (key e) (key e) refl)
 
   -- ---- look-up
 
@@ -201,6 +227,18 @@ module _ {A : Type 0} (key : A → ℕ) where
       go false true m ih = ⊎-elim (λ p. inl p) (λ n. inr (List·Memᴰ·tail n)) (List·Memᴰ·cases-cons m)
       go false false m ih = List·Memᴰ·cases-cons m
 
+  -- nothing else goes: only what has the key makes way
+  pub insert-keeps : (e : A) (l : List A) (y : A) → List·Memᴰ y l → (key y ≡ key e → ⊥) → List·Memᴰ y (insertBy key e l)
+  unfolding insertBy
+  insert-keeps e [] y m n = absurd (List·Memᴰ·not-nil m)
+  insert-keeps e (x ∷ l) y m n = go (ltb (key x) (key e)) (eqb (key x) (key e)) refl (λ o. insert-keeps e l y o n)
+    where
+      go : (b c : Bool) → eqb (key x) (key e) ≡ c → (List·Memᴰ y l → List·Memᴰ y (insertBy key e l)) →
+          List·Memᴰ y (cond b (x ∷ insertBy key e l) (cond c (e ∷ l) (e ∷ x ∷ l)))
+      go true c p ih = ⊎-elim (λ q. List·Memᴰ·head q) (λ o. List·Memᴰ·tail (ih o)) (List·Memᴰ·cases-cons m)
+      go false true p ih = ⊎-elim (λ q. absurd (n (ap key q ∙ eqb-true _ _ p))) (λ o. List·Memᴰ·tail o) (List·Memᴰ·cases-cons m)
+      go false false p ih = List·Memᴰ·tail m
+
   -- what is found is a member
   pub look-in : (k : ℕ) (l : List A) (x : A) → lookBy key k l ≡ hit x → List·Memᴰ x l
   unfolding lookBy
@@ -257,6 +295,19 @@ module _ {A : Type 0} (key : A → ℕ) where
   all-by-length (e ∷ es) l =
       let h : length (insertAllBy key es (insertBy key e l)) ≤ length (insertBy key e l) + length es = all-by-length es (insertBy key e l) in
       omega (arith, insert-by-one e l)
+
+  pub all-from : (es l : List A) (y : A) → List·Memᴰ y (insertAllBy key es l) → List·Memᴰ y es ⊎ List·Memᴰ y l
+  unfolding insertAllBy
+  all-from [] l y m = inr m
+  all-from (e ∷ es) l y m = go (all-from es (insertBy key e l) y m)
+    where
+      old : (y ≡ e) ⊎ List·Memᴰ y l → List·Memᴰ y (e ∷ es) ⊎ List·Memᴰ y l
+      old (inl p) = inl (List·Memᴰ·head p)
+      old (inr n) = inr n
+
+      go : List·Memᴰ y es ⊎ List·Memᴰ y (insertBy key e l) → List·Memᴰ y (e ∷ es) ⊎ List·Memᴰ y l
+      go (inl n) = inl (List·Memᴰ·tail n)
+      go (inr n) = old (insert-from e l y n)
 
   pub all-append : (ds es l : List A) → insertAllBy key (ds ++ es) l ≡ insertAllBy key es (insertAllBy key ds l)
   unfolding insertAllBy

@@ -5,13 +5,13 @@ use native.Mathlib.Omega.{arith}
 use mathlib.Core.Path.{_≡_, refl, sym, ap, _∙_}
 use mathlib.Core.Logic.{_⊎_, inl, inr, ⊎-elim}
 use mathlib.Core.List.{List, [], _∷_, map, List·Memᴰ, List·Memᴰ·not-nil, List·Memᴰ·cases-cons}
-use mathlib.Core.Bool.{Bool, true, false, cond, _&&_}
-use lib.ListN.{length, length-map}
+use mathlib.Core.Bool.{Bool, true, false, _&&_}
+use lib.ListN.{length, length-map, length-take}
 use lib.Dec.{leb}
 use borrow.Author.Tests.{le-leb, lt-leb, leb-true, leb-false}
-use Rattle.sorted.specs.Sorted.{Hit, miss, hit, lookBy, laidOn, orHit, mapHit, ascendingBy}
+use Rattle.sorted.specs.Sorted.{Hit, miss, hit, lookBy, orHit, mapHit, ascendingBy}
 use Rattle.sorted.proofs.Laws.{laid-back, laid-over}
-use Rattle.sorted.proofs.Order.{insert-ascending, look-set, look-kept, look-member, insert-grows, insert-by-one, size-new, size-old, all-ascending, all-grows, all-by-length, look-all, map-ascending, look-map}
+use Rattle.sorted.proofs.Order.{insert-ascending, insert-again, look-set, look-kept, look-member, insert-grows, insert-by-one, size-new, size-old, all-ascending, all-grows, all-by-length, look-all, map-ascending, look-map}
 use Rattle.table.specs.declared.Status.{Status}
 use Rattle.table.specs.declared.Status.the-variants.{Active, Committed, Aborted}
 use Rattle.table.specs.declared.Entry.{Entry}
@@ -19,7 +19,7 @@ use Rattle.table.specs.declared.Table.{Table}
 use Rattle.table.specs.declared.Known.{Known}
 use Rattle.table.specs.declared.Known.the-variants.{Is, Absent}
 use Rattle.table.specs.declared.Inserted.{Inserted}
-use Rattle.table.specs.Entries.{listOf, laid, blank, emptyTable, idOf, insertEntry, insertAll, ascending, knownOf, statusOf, orKnown, wellFormed, bounded, inserted, overlaid, settledStatus, settledEntry, settledKnown, activeToAborted, settledTable, largestBy, largestId, next64}
+use Rattle.table.specs.Entries.{listOf, laid, emptyTable, idOf, insertEntry, insertAll, ascending, knownOf, statusOf, orKnown, wellFormed, bounded, inserted, overlaid, settledStatus, settledEntry, settledKnown, activeToAborted, settledTable, largestBy, largestId, largestTime, timeOf, next64}
 
 -- ---- a table that was laid
 
@@ -67,6 +67,10 @@ module _ (e : Entry) (l : List Entry) where
   pub status-kept : (k : ℕ) → (idOf e ≡ k → ⊥) → statusOf k (insertEntry e l) ≡ statusOf k l
   unfolding statusOf
   status-kept k n = ap knownOf (look-kept idOf k e l n)
+
+-- of two words for one id the last one stands
+pub set-again : (d e : Entry) (l : List Entry) → idOf d ≡ idOf e → insertEntry e (insertEntry d l) ≡ insertEntry e l
+set-again d e l h = insert-again idOf d e l h
 
 -- an entry's status is found by its id
 pub status-member : (l : List Entry) (e : Entry) → ascending l ≡ true → List·Memᴰ e l → statusOf (idOf e) l ≡ Is (e .status)
@@ -143,6 +147,10 @@ pub settle-twice : (l : List Entry) → activeToAborted (activeToAborted l) ≡ 
 settle-twice [] = refl
 settle-twice (x ∷ l) = rw (status-again (x .status), settle-twice l)
 
+pub settled-list : (t : Table) → listOf (settledTable t) ≡ activeToAborted (listOf t)
+unfolding settledTable
+settled-list t = list-laid t (activeToAborted (listOf t))
+
 pub settled-twice : (t : Table) → settledTable (settledTable t) ≡ settledTable t
 unfolding settledTable
 settled-twice t =
@@ -162,6 +170,25 @@ largest-bounds f (x ∷ l) e m = go (largest-bounds f l e)
 -- no entry has an id above the largest
 pub id-bound : (l : List Entry) (e : Entry) → List·Memᴰ e l → idOf e ≤ largestId l
 id-bound l e m = largest-bounds idOf l e m
+
+-- so one more than the largest is above every id, unless the maximum is reached
+pub next-above : (l : List Entry) (e : Entry) → List·Memᴰ e l → largestId l < 2 ^ 64 - 1 → idOf e < next64 (largestId l)
+next-above l e m h = omega (arith, id-bound l e m)
+
+pub settle-largest-id : (l : List Entry) → largestId (activeToAborted l) ≡ largestId l
+unfolding largestBy
+settle-largest-id [] = refl
+settle-largest-id (x ∷ l) = ap (max (idOf x)) (settle-largest-id l)
+
+same-time : (s : Status) → timeOf (settledStatus s) ≡ timeOf s
+same-time Active = refl
+same-time (Committed t) = refl
+same-time Aborted = refl
+
+pub settle-largest-time : (l : List Entry) → largestTime (activeToAborted l) ≡ largestTime l
+unfolding largestBy
+settle-largest-time [] = refl
+settle-largest-time (x ∷ l) = rw (same-time (x .status), settle-largest-time l)
 
 -- ---- the two answers of `bounded`, and what each says of the size
 
@@ -209,6 +236,15 @@ module _ (N : ℕ) (t : Table) (l : List Entry) where
   pub refused-same : bounded N t l .number ≡ 7 → bounded N t l .table ≡ t
   refused-same q = rw (bounded-no (refused-full q))
 
+-- what an accepted table is read as
+pub inserted-list : (N : ℕ) (t : Table) (e : Entry) → inserted N t e .number ≡ 0 → listOf (inserted N t e .table) ≡ insertEntry e (listOf t)
+unfolding inserted
+inserted-list N t e h = accepted-list N t (insertEntry e (listOf t)) h
+
+pub overlaid-list : (N : ℕ) (t top : Table) → overlaid N t top .number ≡ 0 → listOf (overlaid N t top .table) ≡ insertAll (listOf top) (listOf t)
+unfolding overlaid
+overlaid-list N t top h = accepted-list N t (insertAll (listOf top) (listOf t)) h
+
 -- ---- tables in form stay in form
 
 formed : (N : ℕ) (t : Table) → t .count ≤ N → ascending (listOf t) ≡ true → wellFormed N t ≡ true
@@ -248,3 +284,11 @@ pub overlaid-formed : (N : ℕ) (t top : Table) → wellFormed N t ≡ true → 
 unfolding overlaid
 overlaid-formed N t top h =
     bounded-formed N t (insertAll (listOf top) (listOf t)) h (over-ascending (listOf top) (listOf t) (formed-ascending N t h))
+
+pub settled-formed : (N : ℕ) (t : Table) → wellFormed N t ≡ true → wellFormed N (settledTable t) ≡ true
+unfolding settledTable
+settled-formed N t h =
+    let l = activeToAborted (listOf t) in
+    let p : t .count ≤ N = formed-count N t h in
+    let q : length l ≤ N = rw (settle-size (listOf t), length-take) (omega arith) in
+    formed N (laid t l) q (rw (list-laid t l, settle-ascending (listOf t)) (formed-ascending N t h))

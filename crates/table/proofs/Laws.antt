@@ -2,7 +2,7 @@
 -- Assumes nothing.
 use Prim.Native.Nat.{ℕ, _+_, _-_, _≤_, _<_, min, max}
 use native.Mathlib.Omega.{arith}
-use mathlib.Core.Path.{_≡_, refl, sym, ap, _∙_}
+use mathlib.Core.Path.{_≡_, sym, ap, _∙_}
 use mathlib.Core.List.{List, [], _∷_, _++_}
 use lib.ListN.{length, take, drop, getD, set}
 use lib.Seq.{length-take-le}
@@ -11,7 +11,7 @@ use Rattle.sorted.proofs.Laws.{front, done, take-min, laid-own, hit-count, hit-
 use Rattle.table.specs.declared.Entry.{Entry}
 use Rattle.table.specs.declared.Table.{Table}
 use Rattle.table.specs.declared.Inserted.{Inserted}
-use Rattle.table.specs.Entries.{listOf, laid, blank, idOf, placeOf, insertEntry, insertAll, bounded, inserted, overlaid, largestBy}
+use Rattle.table.specs.Entries.{listOf, laid, blank, idOf, placeOf, insertEntry, insertAll, inserted, overlaid, largestBy}
 use Rattle.table.proofs.Facts.{list-laid, laid-laid, set-grows, over-grows, bounded-yes, bounded-no, accepted-fits, refused-full, not-accepted}
 
 pub largest-on : (f : Entry → ℕ) (es : List Entry) (n i : ℕ) → i < n → i < length es →

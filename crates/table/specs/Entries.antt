@@ -10,7 +10,6 @@ use mathlib.Core.Bool.{Bool, cond, _&&_}
 use lib.ListN.{length, take, replicate}
 use lib.Dec.{leb}
 use Rattle.sorted.specs.Sorted.{Hit, miss, hit, laidOn, placeBy, insertBy, insertAllBy, lookBy, ascendingBy}
-use Rattle.fields.specs.declared.TransactionId.{TransactionId}
 use Rattle.table.specs.declared.Status.{Status}
 use Rattle.table.specs.declared.Status.the-variants.{Active, Committed, Aborted}
 use Rattle.table.specs.declared.Entry.{Entry}

@@ -127,10 +127,7 @@ fn shifted(entries: [Entry; 256], from: usize, to: usize, e: Entry) -> [Entry; 2
 pub fn with_status(t: Table, id: TransactionId, status: Status) -> Inserted
     ensures { λ r. ⌜ r ≡ inserted 256 t (record { id = id; status = status }) ⌝ }
 {
-    let e = Entry {
-        id: id,
-        status: status,
-    };
+    let e = Entry { id, status };
     let n = held(t.count);
     let entries = t.entries;
     let p = place(entries, n, id);
@@ -145,7 +142,7 @@ pub fn with_status(t: Table, id: TransactionId, status: Status) -> Inserted
             };
             return Inserted {
                 number: numbers::ACCEPTED,
-                table: table,
+                table,
             };
         }
     }
@@ -162,7 +159,7 @@ pub fn with_status(t: Table, id: TransactionId, status: Status) -> Inserted
     };
     Inserted {
         number: numbers::ACCEPTED,
-        table: table,
+        table,
     }
 }
 
@@ -172,10 +169,7 @@ pub fn overlay(t: Table, top: Table) -> Inserted
 {
     let n = held(t.count);
     let entries = t.entries;
-    let mut u = Table {
-        entries: entries,
-        count: n,
-    };
+    let mut u = Table { entries, count: n };
     let m = held(top.count);
     let mut i = 0;
     while i < m {
@@ -214,7 +208,7 @@ fn settled_entry(e: Entry) -> Entry
     let id = e.id;
     let old = e.status;
     let s = settled_status(old);
-    Entry { id: id, status: s }
+    Entry { id, status: s }
 }
 
 pub fn settle(t: Table) -> Table

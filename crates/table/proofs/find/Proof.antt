@@ -1,10 +1,10 @@
 -- `table::find` meets its contract. The loop's invariant: a look-up in what is left of the entries gives what a look-up in all of them gives.
 -- The measure is how many are left. Assumes nothing.
-use Prim.Native.Nat.{ℕ, _≤_, _<_, _-_, _+_, max}
+use Prim.Native.Nat.{_≤_, _-_}
 use mathlib.Core.Path.{_≡_, refl, sym, ap, _∙_}
 use native.Mathlib.Omega.{arith}
 use borrow.Author.Needs.{needs}
-use lib.ListN.{length, take, drop}
+use lib.ListN.{length, drop}
 use Rattle.sorted.specs.Sorted.{lookBy}
 use Rattle.sorted.proofs.Laws.{look-here, look-on, look-end, length-of-mapped}
 use Rattle.table.specs.Entries.{statusOf, knownOf, listOf, idOf, blank}

@@ -1,7 +1,7 @@
 -- `table::overlay` meets its contract. The loop's invariant is `Carried` of proofs/Laws.antt: setting what is left in the table carried gives what setting all
 -- in the first one gives. The measure is how many are left. Assumes nothing.
 use Prim.Native.Nat.{_≤_, _-_, _+_}
-use mathlib.Core.Path.{_≡_, sym}
+use mathlib.Core.Path.{_≡_}
 use native.Mathlib.Omega.{arith}
 use borrow.Author.Needs.{needs}
 use mathlib.Core.List.{_∷_}

@@ -1,11 +1,10 @@
 -- `table::shifted` meets its contract. The loop's invariant: the entries from i to `to` have moved up by one. The measure is i. Assumes nothing.
 use Rattle.table.specs.Entries.{blank}
-use Prim.Native.Nat.{ℕ, _≤_, _<_, _-_, _+_, max}
-use mathlib.Core.Path.{_≡_, refl, sym, ap, _∙_}
-use mathlib.Core.List.{_++_, map}
+use Prim.Native.Nat.{_≤_, _-_}
+use mathlib.Core.Path.{_≡_}
 use native.Mathlib.Omega.{arith}
 use borrow.Author.Needs.{needs}
-use lib.ListN.{length, take, drop}
+use lib.ListN.{length}
 use Rattle.sorted.proofs.Laws.{moved, moved-none, moved-more, moved-put}
 use Rattle.table.proofs.shifted.Statement.{statement}
 use Rattle.table.proofs.shifted.Tie as tie

@@ -1,13 +1,12 @@
 -- `table::well_formed` meets its contract. The loop's invariant: the ids are ascending if they are from entry i - 1 on. The measure is how many are left.
 -- Assumes nothing.
 use borrow.Author.Tests.{lt-leb, le-leb}
-use mathlib.Core.Bool.{true, false}
-use Prim.Native.Nat.{ℕ, _≤_, _<_, _-_, _+_, max}
-use mathlib.Core.Path.{_≡_, refl, sym, ap, _∙_}
-use mathlib.Core.List.{_++_, map}
+use mathlib.Core.Bool.{false}
+use Prim.Native.Nat.{_≤_, _-_, _+_, max}
+use mathlib.Core.Path.{_≡_, refl, _∙_}
 use native.Mathlib.Omega.{arith}
 use borrow.Author.Needs.{needs}
-use lib.ListN.{length, take, drop}
+use lib.ListN.{length, drop}
 use Rattle.sorted.proofs.Laws.{ascending-on, ascending-stop, ascending-end, length-of-mapped}
 use Rattle.table.specs.Entries.{ascending, listOf, idOf, blank, wellFormed}
 use Rattle.table.proofs.well_formed.Statement.{statement}
@@ -48,7 +47,7 @@ returns-2 c =
     let t = l .before .before .args .t1 in
     let len : length (t .entries) ≡ 256 = search (needs, length-of-mapped) in
     let h : ascending (listOf t) ≡ false =
-    l .loop .inv .2 ∙ ascending-stop idOf blank (t .entries) (t .count) (l .loop .i) (omega arith) (omega arith) (omega arith) (c .if2 .taken) in
+    l .loop .inv .2 ∙ ascending-stop idOf blank (t .entries) (t .count) (l .loop .i) (omega arith) (omega arith) (omega arith) (omega arith) in
     rw (le-leb (t .count) 256 (omega arith), h)
 
 add-i : tie.Need-add-i Inv-loop μ-loop
@@ -65,7 +64,7 @@ loop-again c =
     let e : l .loop .i + 1 - 1 ≡ l .loop .i = omega arith in (
       omega arith,
       omega arith,
-      l .loop .inv .2 ∙ rw e (ascending-on idOf blank (t .entries) (t .count) (l .loop .i) (omega arith) (omega arith) (omega arith) (c .if2 .left)),
+      l .loop .inv .2 ∙ rw e (ascending-on idOf blank (t .entries) (t .count) (l .loop .i) (omega arith) (omega arith) (omega arith) (omega arith)),
     )
 
 returns-3 : tie.Need-returns-3 Inv-loop μ-loop

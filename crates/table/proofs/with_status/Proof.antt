@@ -2,9 +2,8 @@
 use mathlib.Core.Path.{_≡_}
 use mathlib.Core.Logic.{⊎-elim}
 use Prim.Native.Nat.{_<_}
-use native.Mathlib.Nat.{not-suc-le-zero}
 use native.Mathlib.Omega.{arith}
-use lib.ListN.{length, getD, take, length-take}
+use lib.ListN.{length, getD}
 use Rattle.sorted.proofs.Laws.{length-of-mapped, place-held}
 use Rattle.table.specs.Entries.{blank, idOf}
 use Rattle.table.proofs.Laws.{with-hit, with-full, with-new}
