@@ -1,13 +1,13 @@
 -- Numbers and their bytes, over the width n: the round trip both ways, and what a turn of the loop that reads does. Assumes nothing.
 use mathlib.Core.Path.{_≡_, refl, sym, ap, _∙_}
-use mathlib.Core.List.{List, [], _∷_}
+use mathlib.Core.List.{List, [], _∷_, _++_}
 use Prim.Native.Nat.{ℕ, zero, suc, _+_, _-_, _*_, _/_, _%_, _^_, _≤_, _<_, min}
 use native.Mathlib.Nat.{one-le-pow, pow-suc, pow-zero, pow-le-pow-right, div-lt-iff-lt-mul, not-suc-le-zero}
 use native.Mathlib.Omega.{arith}
 use lib.Dec.{lit<, lit≤}
-use lib.ListN.{length, take, drop, getD, length-take, length-drop}
-use lib.Seq.{drop-cons, drop-length, getD-take, getD-drop}
-use Rattle.fields.specs.Bytes.{leOf, bytesOf, Bytes}
+use lib.ListN.{length, take, drop, getD, replicate, length-append, length-take, length-drop, length-replicate}
+use lib.Seq.{drop-cons, drop-length, getD-take, getD-drop, length-take-le, take-append-le}
+use Rattle.fields.specs.Bytes.{leOf, bytesOf, Bytes, part}
 use Rattle.fields.proofs.Tests.{Order, less, most, order}
 
 pub length-bytesOf : (n v : ℕ) → length (bytesOf n v) ≡ n
@@ -58,6 +58,15 @@ bytes-take n xs b i = go n xs i b
     go (suc n) [] i b = omega arith
     go (suc n) (x ∷ xs) zero b = b 0
     go (suc n) (x ∷ xs) (suc i) b = go n xs i (λ j. b (suc j))
+
+-- a part has its size, and is the bytes themselves where they all stand there
+pub length-part : (n : ℕ) (xs : List ℕ) (at : ℕ) → length (part n xs at) ≡ n
+unfolding part
+length-part n xs at = length-take-le n (drop at xs ++ replicate n 0) (rw (length-append, length-replicate) (omega arith))
+
+pub part-in : (n : ℕ) (xs : List ℕ) (at : ℕ) → at + n ≤ length xs → part n xs at ≡ take n (drop at xs)
+unfolding part
+part-in n xs at h = take-append-le n (drop at xs) (replicate n 0) (rw length-drop (omega arith))
 
 -- ---- a turn of the loop that reads: the byte below those that are read becomes the low byte
 

@@ -1,10 +1,10 @@
--- Numbers in bytes. A field of n bytes is little-endian: its first byte is the lowest, worth 1, the next 256, and so on; documents 01's fields have
+-- Numbers in bytes. A field of n bytes is little-endian: its first byte is the lowest, worth 1, the next 256, and so on; document 01's fields have
 -- n = 4 (page numbers, the version) and n = 8 (ids, times, the mark). Bytes laid into a buffer are written with the library's `sets`: `sets b at ys`
 -- stores ys in b from place `at` on; what would lie past the end of b is not stored. Assumes nothing.
 use Prim.Native.Nat.{ℕ, zero, suc, _+_, _*_, _/_, _%_, _<_}
-use mathlib.Core.List.{List, [], _∷_}
+use mathlib.Core.List.{List, [], _∷_, _++_}
 use mathlib.Core.Bool.{Bool, true, false, _&&_}
-use lib.ListN.{getD}
+use lib.ListN.{getD, take, drop, replicate}
 use lib.Dec.{eqb}
 
 -- the number that little-endian bytes stand for
@@ -26,3 +26,7 @@ unfoldable pub starts : List ℕ → List ℕ → Bool
 starts [] xs = true
 starts (m ∷ ms) [] = false
 starts (m ∷ ms) (x ∷ xs) = eqb x m && starts ms xs
+
+-- n bytes of xs from place `at` on; past the end of xs they are zeros
+unfoldable pub part : ℕ → List ℕ → ℕ → List ℕ
+part n xs at = take n (drop at xs ++ replicate n 0)
