@@ -9,6 +9,7 @@ use native.Mathlib.Numerals.{add-one}
 use native.Mathlib.Omega.{arith}
 use borrow.Author.Tests.{lt-ltb, le-ltb, ne-eqb, ltb-true, ltb-false}
 use lib.Dec.{ltb, eqb, lit<, lit≤}
+use denote.Ref.{RefT, now}
 use lib.ListN.{length, take, drop, getD, length-append, length-take, length-drop, drop-of-length-le}
 use lib.Seq.{take-all, drop-cons, drop-drop, take-nil, take-take, take-at, drop-append-le, length-take-le}
 use Rattle.fields.specs.Bytes.{leOf, starts}
@@ -16,7 +17,7 @@ use Rattle.fields.specs.Files.{File, fileOf, content, room}
 use Rattle.fields.specs.Answers.{Told}
 use Rattle.fields.proofs.Tests.{Order, less, most, order}
 use Rattle.wal.specs.Records.{logMagic, Record, image, begin, commit, abort, checkpoint, bodyOf, recordOf, Front, ended, torn, unknown, one, decode, Placed, clean, cut, strange, Parsed, joined, parse, startOf}
-use Rattle.wal.specs.Reading.{recordTold, readTold, saidOf, saidAt, unfit, outside, readIn, startIn, pageOf, placeOf, imageIn, placeIn, shown, recordPlace, readPlace}
+use Rattle.wal.specs.Reading.{recordTold, readTold, saidOf, saidAt, unfit, outside, readIn, startIn, pageOf, placeOf, imageIn, placeIn, IsImage, shown, recordPlace, readPlace}
 use Rattle.wal.specs.declared.WalRecord.{WalRecord}
 use Rattle.wal.specs.declared.WalRecord.the-variants.{Image, Begin, Commit, Abort, Checkpoint}
 use Rattle.wal.specs.declared.Read.{Read}
@@ -371,3 +372,8 @@ module _ (P : ℕ) (buf : List ℕ) (len at p : ℕ) (r : Read) (e : readTold r 
       go (image-here q l i) =
           let k : p ≡ at + 5 = at-place ∙ q in
           record { fits = omega arith; bytes = rw k i; place = sym at-place }
+
+-- two parts that the contract of `image` allows have the same bytes and stand at the same place
+pub image-same : (P : ℕ) (log : RefT (List ℕ)) (len at : ℕ) (r q : RefT (List ℕ)) → IsImage P log len at r → IsImage P log len at q
+    → (now r ≡ now q) × (r .ptr .0 ≡ q .ptr .0) × (r .ptr .1 ≡ q .ptr .1)
+image-same P log len at r q a b = (a .bytes ∙ sym (b .bytes), a .block ∙ sym (b .block), a .place ∙ sym (b .place))

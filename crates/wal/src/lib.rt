@@ -59,9 +59,9 @@ fn body_len(tag: u8) -> usize
     ensures { λ r. ⌜ r ≡ bodyOf 4096 tag ⌝ }
 {
     match tag {
-        1 => 4100,
-        3 => 16,
-        5 => 0,
+        PAGE_IMAGE_TAG => 4100,
+        TX_COMMIT_TAG => 16,
+        CHECKPOINT_TAG => 0,
         _ => 8,
     }
 }
@@ -72,13 +72,13 @@ fn record_of(s: &[u8], tag: u8, body: usize) -> WalRecord
     ensures { λ r. ⌜ r ≡ shown body (recordOf tag (take (bodyOf 4096 tag) (drop body (now (s .entry))))) ⌝ }
 {
     match tag {
-        1 => WalRecord::Image(fields::get_u32(s, body), body + 4),
-        2 => WalRecord::Begin(TransactionId(fields::get_u64(s, body))),
-        3 => WalRecord::Commit(
+        PAGE_IMAGE_TAG => WalRecord::Image(fields::get_u32(s, body), body + 4),
+        TX_BEGIN_TAG => WalRecord::Begin(TransactionId(fields::get_u64(s, body))),
+        TX_COMMIT_TAG => WalRecord::Commit(
             TransactionId(fields::get_u64(s, body)),
             CommitTime(fields::get_u64(s, body + 8)),
         ),
-        4 => WalRecord::Abort(TransactionId(fields::get_u64(s, body))),
+        TX_ABORT_TAG => WalRecord::Abort(TransactionId(fields::get_u64(s, body))),
         _ => WalRecord::Checkpoint,
     }
 }
@@ -108,10 +108,10 @@ pub fn read_record(log: &[u8], len: usize, at: usize) -> Read
         return Read::End;
     }
     let tag = s[at];
-    if tag < 1 {
+    if tag < PAGE_IMAGE_TAG {
         return Read::Unknown;
     }
-    if 5 < tag {
+    if CHECKPOINT_TAG < tag {
         return Read::Unknown;
     }
     let body = at + 1;
