@@ -1,0 +1,63 @@
+use borrow.Author.Needs.{needs}
+use mathlib.Core.Path.{_≡_, sym, ap, _∙_}
+use native.Mathlib.Omega.{arith}
+use Rattle.clog.proofs.Ways.{record-fits, recorded-no, recorded-done}
+use Rattle.clog.proofs.record_in.Statement.{statement}
+use Rattle.clog.proofs.record_in.Tie as tie
+
+record-no-requires : tie.Need-record-no-requires
+record-no-requires c κs = search needs
+
+returns : tie.Need-returns
+returns c = recorded-no (c .before .before .before .args .clog .now) (c .before .before .before .args .len) _ (c .before .before .before .args .h) (c .before .before .before .args .base) (c .before .before .before .args .id) (c .before .before .before .args .code) (c .before .record-no .ensures) (c .if1 .taken)
+
+sub-k : tie.Need-sub-k
+sub-k c = search needs
+
+add-at : tie.Need-add-at
+add-at c = let f = record-fits (c .before .before .before .args .h) (c .before .before .before .args .base) (c .before .before .before .args .id) _ (c .before .before .before .args .len) (sym (c .before .record-no .ensures) ∙ c .if1 .left) in omega arith
+
+add-zero-fill : tie.Need-add-zero-fill
+add-zero-fill c = let f = record-fits (c .before .before .before .before .args .h) (c .before .before .before .before .args .base) (c .before .before .before .before .args .id) _ (c .before .before .before .before .args .len) (sym (c .before .before .record-no .ensures) ∙ c .before .if1 .left) in omega arith
+
+zero-fill-requires : tie.Need-zero-fill-requires
+zero-fill-requires c κs = search needs
+
+slice-read-with-bits : tie.Need-slice-read-with-bits
+slice-read-with-bits c = let f = record-fits (c .before .before .before .before .before .before .before .before .args .h) (c .before .before .before .before .before .before .before .before .args .base) (c .before .before .before .before .before .before .before .before .args .id) _ (c .before .before .before .before .before .before .before .before .args .len) (sym (c .before .before .before .before .before .before .record-no .ensures) ∙ c .before .before .before .before .before .if1 .left) in omega (arith, c .before .before .before .zero-fill .kept .0)
+
+with-bits-requires : tie.Need-with-bits-requires
+with-bits-requires c κs = search needs
+
+slice-write-clog : tie.Need-slice-write-clog
+slice-write-clog c = let f = record-fits (c .before .before .before .before .before .before .before .before .before .args .h) (c .before .before .before .before .before .before .before .before .before .args .base) (c .before .before .before .before .before .before .before .before .before .args .id) _ (c .before .before .before .before .before .before .before .before .before .args .len) (sym (c .before .before .before .before .before .before .before .record-no .ensures) ∙ c .before .before .before .before .before .before .if1 .left) in omega (arith, c .before .before .before .before .zero-fill .kept .0)
+
+add-larger : tie.Need-add-larger
+add-larger c = let f = record-fits (c .before .before .before .before .before .before .before .before .before .args .h) (c .before .before .before .before .before .before .before .before .before .args .base) (c .before .before .before .before .before .before .before .before .before .args .id) _ (c .before .before .before .before .before .before .before .before .before .args .len) (sym (c .before .before .before .before .before .before .before .record-no .ensures) ∙ c .before .before .before .before .before .before .if1 .left) in omega arith
+
+larger-requires : tie.Need-larger-requires
+larger-requires c κs = search needs
+
+same-length : tie.Need-same-length
+same-length c = search needs
+
+returns-2 : tie.Need-returns-2
+returns-2 c = recorded-done (c .before .before .before .before .before .before .before .before .before .before .args .clog .now) (c .before .before .before .before .before .before .before .before .before .before .args .len) _ (c .before .before .before .before .before .before .before .before .before .before .args .h) (c .before .before .before .before .before .before .before .before .before .before .args .base) (c .before .before .before .before .before .before .before .before .before .before .args .id) (c .before .before .before .before .before .before .before .before .before .before .args .code) _ _ _ (c .before .before .before .before .before .before .before .before .record-no .ensures) (c .before .before .before .before .before .before .before .if1 .left) (c .before .before .before .before .before .zero-fill .ensures) (c .before .with-bits .ensures) (c .larger .ensures)
+
+pub record-in-spec : {M : Type 1} → statement M
+record-in-spec =
+    tie.close
+    (tie.spec
+    record-no-requires
+    returns
+    sub-k
+    add-at
+    add-zero-fill
+    zero-fill-requires
+    slice-read-with-bits
+    with-bits-requires
+    slice-write-clog
+    add-larger
+    larger-requires
+    same-length
+    returns-2)
