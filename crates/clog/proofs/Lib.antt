@@ -3,3 +3,6 @@ pub mod FourSlots
 pub mod Codes
 pub mod Ways
 pub mod SlotLaws
+pub mod TableLaws
+pub mod Theorems
+pub mod Vectors
