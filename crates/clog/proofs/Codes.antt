@@ -61,7 +61,7 @@ entries-done t k cs h = rw (drop-of-length-le cs h)
 entries-many : (cs : List ℕ) (t u : ℕ) → length (entriesFrom t cs) ≡ length (entriesFrom u cs)
 unfolding entriesFrom
 entries-many [] t u = refl
-entries-many (c ∷ cs) t u = rw (length-append, length-append, length-entry, length-entry, entries-many cs (t + 1) (u + 1))
+entries-many (c ∷ cs) t u = simp (length-append, length-entry, entries-many cs (t + 1) (u + 1))
 
 pub many : (h base : ℕ) (s : List ℕ) → length (entriesIn h base s) ≡ inUse h s
 unfolding inUse entriesIn
@@ -155,8 +155,10 @@ skip (suc m) h s k t l f z = go (order (k + 1) (4 * (k / 4) + 4)) (skip m h s (k
   where
     step : entriesFrom (t + k) (drop k (codes (drop h s))) ≡ entriesFrom (t + (k + 1)) (drop (k + 1) (codes (drop h s)))
     step = slots-turn h s k t 0 (omega arith) (sym (slot-none h s k z)) ∙ rw (entry-none (t + k))
+
     e : k + suc m ≡ k + 1 + m
     e = omega arith
+
     go : Order (k + 1) (4 * (k / 4) + 4)
         → (k + 1 + m ≤ 4 * (length s - h) → k + 1 + m ≤ 4 * ((k + 1) / 4) + 4 → getD s (h + (k + 1) / 4) 0 ≡ 0
         → entriesFrom (t + (k + 1)) (drop (k + 1) (codes (drop h s))) ≡ entriesFrom (t + (k + 1 + m)) (drop (k + 1 + m) (codes (drop h s))))

@@ -4,16 +4,16 @@ use mathlib.Core.Path.{_≡_, refl, sym, ap, _∙_}
 use mathlib.Core.List.{List, [], _∷_, _++_, map}
 use Prim.Native.Nat.{ℕ, zero, suc, _+_, _-_, _*_, _/_, _%_, _≤_, _<_, max}
 use native.Mathlib.Omega.{arith}
-use lib.ListN.{length, take, drop, getD, length-append, length-take, length-map, List·getD-eq-default, List·getD-map}
+use lib.ListN.{length, take, drop, getD, length-append, length-map, List·getD-eq-default, List·getD-map}
 use lib.Seq.{sets, length-sets, sets-eq, slice, length-slice, getD-drop, getD-take, ext-getD, length-take-le, take-at, drop-at}
 use Rattle.fields.specs.Bytes.{Bytes}
-use Rattle.fields.specs.Files.{File, fileOf, content, room, lay, header}
+use Rattle.fields.specs.Files.{File, fileOf, content, room}
 use Rattle.fields.proofs.Tests.{Order, less, most, order, Equal, equal, other, equality}
 use Rattle.fields.proofs.ByteLaws.{bytes-drop}
-use Rattle.fields.proofs.Stored.{sets-before}
+use Rattle.fields.proofs.Stored.{sets-before, sets-in, sets-after}
 use Rattle.fields.proofs.FileLaws.{byte-in, byte-past, content-length, lay-room, lay-len, lay-in, lay-before, lay-after, lay-bytes}
-use Rattle.clog.specs.Slots.{clogMagic, bitsOf, withBits, highBits, slotOf, setSlot, cleared, clearSlots, spanBelow, codes, settledCode, settledByte, settled}
-use Rattle.clog.proofs.FourSlots.{bits-zero, bits-small, bits-same, bits-other, with-byte, high-low, high-kept, high-byte, settled-0, settled-1, settled-2, settled-3, byte-again, settled-byte}
+use Rattle.clog.specs.Slots.{clogMagic, bitsOf, withBits, slotOf, setSlot, cleared, clearSlots, spanBelow, codes, settledCode, settledByte, settled}
+use Rattle.clog.proofs.FourSlots.{bits-zero, bits-small, bits-same, bits-other, with-byte, high-none, high-low, high-kept, high-byte, settled-0, settled-1, settled-2, settled-3, byte-again, settled-byte}
 use Rattle.clog.proofs.Codes.{codes-slot}
 use Rattle.clog.proofs.Ways.{self-from}
 
@@ -102,6 +102,7 @@ module _ (h k c : ℕ) (f : File) where
         where
           v : ℕ
           v = withBits (k % 4) c (getD (content f) (h + k / 4) 0)
+
           one : Bytes (withBits (k % 4) c (getD (content f) (h + k / 4) 0) ∷ [])
           one zero = with-byte c (getD (content f) (h + k / 4) 0) small (b (h + k / 4)) (k % 4) (omega arith)
           one (suc i) = omega arith
@@ -163,6 +164,13 @@ cleared-high [] w j m h l = refl
 cleared-high (b ∷ bs) w zero m h l = high-kept b w m h (omega arith)
 cleared-high (b ∷ bs) w (suc j) m h l = cleared-high bs (w - 4) j m h (omega arith)
 
+-- past the span nothing is cleared
+cleared-past : (bs : List ℕ) (w j : ℕ) → (w + 3) / 4 ≤ j → getD (cleared w bs) j 0 ≡ getD bs j 0
+unfolding cleared
+cleared-past [] w j h = refl
+cleared-past (b ∷ bs) w zero h = let z : w ≡ 0 = omega arith in rw z (high-none b)
+cleared-past (b ∷ bs) w (suc j) h = cleared-past bs (w - 4) j (omega arith)
+
 cleared-bytes : (w : ℕ) (bs : List ℕ) → Bytes bs → Bytes (cleared w bs)
 unfolding cleared
 cleared-bytes w [] b i = b i
@@ -200,6 +208,24 @@ module _ (h w : ℕ) (f : File) (fits : f .len ≤ room f) (head : h ≤ f .len)
   compact-bytes b =
       rewritten-bytes h f (cleared w (drop h (content f))) fits head (length-cleared w (drop h (content f))) b
       (cleared-bytes w (drop h (content f)) (bytes-drop h (content f) b))
+
+  -- the bytes that a compaction rewrites: from h on, as many as `spanBelow` says
+  pub compact-span : (i : ℕ) → (h ≤ i → h + spanBelow (f .len - h) w ≤ i) → getD (clearSlots h w f .bytes) i 0 ≡ getD (f .bytes) i 0
+  unfolding clearSlots spanBelow
+  compact-span i out = go (order i h) (order i (f .len))
+    where
+      long : length (cleared w (drop h (content f))) ≡ f .len - h
+      long = length-cleared w (drop h (content f)) ∙ length-slice h (f .len) (f .bytes) fits
+
+      go : Order i h → Order i (f .len) → getD (sets (f .bytes) h (cleared w (drop h (content f)))) i 0 ≡ getD (f .bytes) i 0
+      go (less p) q = sets-before (cleared w (drop h (content f))) (f .bytes) h i p
+      go (most p) (most q) = sets-after (cleared w (drop h (content f))) (f .bytes) h i (omega (arith, long))
+      go (most p) (less q) =
+          let e : h + (i - h) ≡ i = omega arith in
+          sets-in (cleared w (drop h (content f))) (f .bytes) h i p (omega (arith, long)) (omega arith)
+          ∙ cleared-past (drop h (content f)) w (i - h) (omega (arith, out p))
+          ∙ getD-drop h (content f) (i - h) 0
+          ∙ rw e (byte-in (f .len) (f .bytes) i q)
 
 -- ---- load in the file
 

@@ -2,17 +2,17 @@
 use mathlib.Core.Path.{_≡_, refl, sym, ap, _∙_, subst}
 use mathlib.Core.List.{List, [], _∷_, _++_, map, List·Memᴰ, List·Memᴰ·head, List·Memᴰ·tail}
 use mathlib.Core.Bool.{Bool, true, false, cond, _&&_}
-use Prim.Native.Nat.{ℕ, zero, suc, _+_, _-_, _*_, _/_, _%_, _≤_, _<_, max}
+use Prim.Native.Nat.{ℕ, zero, suc, _+_, _-_, _/_, _≤_, _<_}
 use native.Mathlib.Omega.{arith}
 use lib.Dec.{eqb}
 use lib.ListN.{length, take, drop, getD, length-append, length-take}
 use borrow.Author.Tests.{lt-ltb, eq-eqb, ne-eqb}
-use Rattle.sorted.specs.Sorted.{Hit, lookBy, belowBy, ascendingBy}
+use Rattle.sorted.specs.Sorted.{lookBy, belowBy, ascendingBy}
 use Rattle.fields.specs.Bytes.{starts, Bytes}
-use Rattle.fields.specs.Files.{File, fileOf, content, room, header}
-use Rattle.fields.proofs.Tests.{Order, less, most, order, Equal, equal, other, equality}
-use Rattle.fields.proofs.Stored.{starts-append, starts-means}
-use Rattle.fields.proofs.FileLaws.{header-room, header-len, header-content, content-length}
+use Rattle.fields.specs.Files.{File, content, room, header}
+use Rattle.fields.proofs.Tests.{Equal, equal, other, equality}
+use Rattle.fields.proofs.Stored.{starts-means}
+use Rattle.fields.proofs.FileLaws.{header-room, header-content}
 use Rattle.table.specs.declared.Status.{Status}
 use Rattle.table.specs.declared.Entry.{Entry}
 use Rattle.table.specs.declared.Known.{Known}
@@ -20,8 +20,8 @@ use Rattle.table.specs.declared.Known.the-variants.{Is, Absent}
 use Rattle.table.specs.Entries.{idOf, ascending, knownOf, statusOf}
 use Rattle.table.proofs.Facts.{status-member}
 use Rattle.clog.specs.Slots.{clogMagic, codeOf, slotOf, validClog, openClog, setSlot, recordAll, codes, loadedStatus, entryOf, entriesFrom, entriesIn, inUse, settledCode, settled}
-use Rattle.clog.proofs.FourSlots.{code-small, code-not-0}
-use Rattle.clog.proofs.Codes.{codes-slot, many}
+use Rattle.clog.proofs.FourSlots.{code-small}
+use Rattle.clog.proofs.Codes.{codes-slot}
 use Rattle.clog.proofs.SlotLaws.{codes-settled, record-room, record-len, record-fit, record-header, record-same, record-other, record-bytes, settled-body}
 
 -- ---- the entries of a clog
@@ -183,6 +183,10 @@ record-all h base (x ∷ es) f p l a =
     record-one h base x es f (recordAll h base es f) l (a x (List·Memᴰ·head refl) .0) (a x (List·Memᴰ·head refl) .1)
     (record-all h base es f p l (λ e m. a e (List·Memᴰ·tail m)))
 
+-- at base 0
+pub slots-plain : (h : ℕ) (es : List Entry) (f g : File) → Recorded h 0 es f g → (id : ℕ) → slotOf h (content g) id ≡ codeOrElse (statusOf id es) (slotOf h (content f) id)
+slots-plain h es f g r id = let e : 0 + id ≡ id = omega arith in rw e at (r .slots id)
+
 -- one part of a table after another
 pub record-append : (h base : ℕ) (xs ys : List Entry) (f : File) → recordAll h base (xs ++ ys) f ≡ recordAll h base xs (recordAll h base ys f)
 unfolding recordAll
@@ -215,6 +219,19 @@ module _ (f : File) where
       let e : length (content f) ≡ length (clogMagic ++ drop (length clogMagic) (content f)) = ap length (starts-means clogMagic (content f) v) in
       let n : length clogMagic ≡ 8 = unfold clogMagic in refl in
       omega (arith, e, length-append clogMagic (drop (length clogMagic) (content f)), length-take (f .len) (f .bytes))
+
+-- only the header decides: what keeps it keeps a clog valid
+starts-front : (m s : List ℕ) → starts m (take (length m) s) ≡ starts m s
+unfolding starts
+starts-front [] s = refl
+starts-front (x ∷ m) [] = refl
+starts-front (x ∷ m) (y ∷ s) = ap (λ (b : Bool). eqb y x && b) (starts-front m s)
+
+pub valid-same : (f g : File) → take 8 (content g) ≡ take 8 (content f) → validClog g ≡ validClog f
+unfolding validClog
+valid-same f g e =
+    let n : length clogMagic ≡ 8 = unfold clogMagic in refl in
+    sym (starts-front clogMagic (content g)) ∙ rw (n, e) (rw n at (starts-front clogMagic (content f)))
 
 -- an opened clog is valid
 magic-valid : (f : File) → 8 ≤ room f → validClog (header clogMagic f) ≡ true

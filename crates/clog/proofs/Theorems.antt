@@ -2,26 +2,24 @@
 use mathlib.Core.Path.{_≡_, refl, sym, ap, _∙_}
 use mathlib.Core.List.{List, [], _∷_}
 use mathlib.Core.Bool.{Bool, true, false, cond}
-use Prim.Native.Nat.{ℕ, zero, suc, _+_, _-_, _/_, _≤_, _<_}
+use Prim.Native.Nat.{ℕ, zero, suc, _+_, _-_, _≤_, _<_}
 use native.Mathlib.Omega.{arith}
 use lib.Dec.{eqb}
-use lib.ListN.{length, take}
+use lib.ListN.{take}
 use borrow.Author.Tests.{eqb-true, eqb-false}
-use Rattle.fields.specs.declared.Answer.{Answer}
-use Rattle.fields.specs.declared.Answer.the-variants.{Accepted, Refused}
+use Rattle.fields.specs.declared.Answer.the-variants.{Accepted}
 use Rattle.fields.specs.Files.{File, fileOf, content, room}
 use Rattle.fields.specs.Answers.{Told, told, Outcome, outcome, decided}
 use Rattle.fields.proofs.AnswerLaws.{told-same}
 use Rattle.table.specs.declared.Table.{Table}
-use Rattle.table.specs.declared.Entry.{Entry}
 use Rattle.table.specs.declared.Known.the-variants.{Absent}
 use Rattle.table.specs.Entries.{emptyTable, laid, listOf, statusOf, ascending}
 use Rattle.table.proofs.Facts.{list-laid}
 use Rattle.clog.specs.declared.Loaded.{Loaded}
-use Rattle.clog.specs.Slots.{slotOf, setSlot, clearSlots, entriesIn, inUse, settledCode, settled}
-use Rattle.clog.specs.Calls.{recordNo, compactNo, loadNo, unfit, recorded, compacted, LoadOutcome, loadOutcome, tableBy, loadDecided, loaded, seen, seenOf}
-use Rattle.clog.proofs.Ways.{record-fits, compact-fits, load-fits, load-made}
-use Rattle.clog.proofs.SlotLaws.{record-same, record-other, compact-len, compact-low, compact-high, slot-small, settled-room, settled-len, settled-twice, slot-settled}
+use Rattle.clog.specs.Slots.{slotOf, setSlot, clearSlots, entriesIn, settledCode, settled}
+use Rattle.clog.specs.Calls.{recordNo, compactNo, loadNo, recorded, compacted, LoadOutcome, loadOutcome, tableBy, loadDecided, loaded, seen}
+use Rattle.clog.proofs.Ways.{record-fits, compact-fits, load-fits}
+use Rattle.clog.proofs.SlotLaws.{record-same, record-other, compact-len, compact-low, compact-high, settled-room, settled-len, settled-twice, slot-settled}
 use Rattle.clog.proofs.TableLaws.{knownAs, load-ascending, load-status, load-none, settled-entries, settled-in-use}
 
 -- ---- a contract fixes the result
@@ -67,13 +65,13 @@ module _ (h base id c n : ℕ) (f : File) (bs : List ℕ) (done : recorded h bas
     pub reads-back : slotOf h (take n bs) (id - base) ≡ c
     reads-back =
         let m = means in
-        let g = record-fits h base id (room f) (f .len) (m .0) in
+        let g = record-fits h base id (room f) (f .len) _ refl (m .0) in
         ap (λ (x : File). slotOf h (content x) (id - base)) (m .1) ∙ record-same h (id - base) c f (g .1) (g .3) small
 
     pub others-stay : (t : ℕ) → base ≤ t → (id ≡ t → ⊥) → slotOf h (take n bs) (t - base) ≡ slotOf h (content f) (t - base)
     others-stay t l ne =
         let m = means in
-        let g = record-fits h base id (room f) (f .len) (m .0) in
+        let g = record-fits h base id (room f) (f .len) _ refl (m .0) in
         ap (λ (x : File). slotOf h (content x) (t - base)) (m .1) ∙ record-other h (id - base) c f (g .1) (g .3) small (t - base) (λ e. ne (omega arith))
 
 -- ---- compact: accepted, the slots under w are 0 and no other changes; the length stays
@@ -87,13 +85,13 @@ module _ (h base w n : ℕ) (f : File) (bs : List ℕ) (done : compacted h base 
   pub under-zero : (t : ℕ) → base ≤ t → t < w → slotOf h (take n bs) (t - base) ≡ 0
   under-zero t l u =
       let m = compacts in
-      let g = compact-fits h (room f) (f .len) (m .0) in
+      let g = compact-fits h (room f) (f .len) _ refl (m .0) in
       ap (λ (x : File). slotOf h (content x) (t - base)) (m .1) ∙ compact-low h (w - base) f (g .1) (g .2) (t - base) (omega arith)
 
   pub above-stay : (t : ℕ) → base ≤ t → w ≤ t → slotOf h (take n bs) (t - base) ≡ slotOf h (content f) (t - base)
   above-stay t l u =
       let m = compacts in
-      let g = compact-fits h (room f) (f .len) (m .0) in
+      let g = compact-fits h (room f) (f .len) _ refl (m .0) in
       ap (λ (x : File). slotOf h (content x) (t - base)) (m .1) ∙ compact-high h (w - base) f (g .1) (g .2) (t - base) (omega arith)
 
   pub same-length : n ≡ f .len
@@ -142,7 +140,7 @@ module _ (N h base n : ℕ) (f : File) (t : Table) (bs : List ℕ) (done : loade
 
   pub file-settled : (k : ℕ) → slotOf h (take n bs) k ≡ settledCode (slotOf h (content f) k)
   file-settled k =
-      let g = load-fits N h f (loads .0) in
+      let g = load-fits N h f _ refl (loads .0) in
       ap (λ (x : File). slotOf h (content x) k) (loads .1) ∙ slot-settled h f (g .1) (g .2) k
 
   pub file-no-active : (k : ℕ) → slotOf h (take n bs) k ≡ 1 → ⊥
@@ -154,13 +152,19 @@ module _ (N h base n : ℕ) (f : File) (t : Table) (bs : List ℕ) (done : loade
 -- ---- load twice is load once, refusals too
 
 -- a settled file is loaded as the file was
-load-again : (N h base : ℕ) (f : File) → loadNo N h f ≡ 0 → loaded N h base (settled h f) ≡ loaded N h base f
-unfolding loaded loadDecided decided
-load-again N h base f z =
-    let g = load-fits N h f z in
-    let n : loadNo N h (settled h f) ≡ loadNo N h f = unfold loadNo in rw (settled-in-use h f (g .1) (g .2), settled-len h f, settled-room h f) in
-    let e : entriesIn h base (content (settled h f)) ≡ entriesIn h base (content f) = settled-entries h f (g .1) (g .2) base in
-    rw (n, z, e, settled-twice h f (g .1) (g .2))
+module _ (N h : ℕ) (f : File) (ok : loadNo N h f ≡ 0) where
+  same-no : loadNo N h (settled h f) ≡ loadNo N h f
+  unfolding loadNo
+  same-no =
+      let g = load-fits N h f (loadNo N h f) refl ok in
+      rw (settled-in-use h f (g .1) (g .2), settled-len h f, settled-room h f)
+
+  load-again : (base : ℕ) → loaded N h base (settled h f) ≡ loaded N h base f
+  unfolding loaded loadDecided decided
+  load-again base =
+      let g = load-fits N h f (loadNo N h f) refl ok in
+      let e : entriesIn h base (content (settled h f)) ≡ entriesIn h base (content f) = settled-entries h f (g .1) (g .2) base in
+      rw (same-no, ok, e, settled-twice h f (g .1) (g .2))
 
 pub load-twice : (N h base : ℕ) (f : File) → loaded N h base (fileOf (loaded N h base f .bytes) (f .len)) ≡ loaded N h base f
 load-twice N h base f = go (loadNo N h f) refl
@@ -169,7 +173,7 @@ load-twice N h base f = go (loadNo N h f) refl
     go zero p =
         let b : loaded N h base f .bytes ≡ settled h f .bytes = unfold loaded loadDecided decided in rw p in
         let z : fileOf (settled h f .bytes) (f .len) ≡ settled h f = ap (λ (n : ℕ). fileOf (settled h f .bytes) n) (sym (settled-len h f)) in
-        ap (λ (x : List ℕ). loaded N h base (fileOf x (f .len))) b ∙ ap (loaded N h base) z ∙ load-again N h base f p
+        ap (λ (x : List ℕ). loaded N h base (fileOf x (f .len))) b ∙ ap (loaded N h base) z ∙ load-again N h f p base
     go (suc n) p =
         let b : loaded N h base f .bytes ≡ f .bytes = unfold loaded loadDecided decided in rw p in
         ap (λ (x : List ℕ). loaded N h base (fileOf x (f .len))) b

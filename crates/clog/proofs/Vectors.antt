@@ -42,15 +42,15 @@ pub values :
     ∷ call (outcome (Accepted 10) (buffer 0 0xC0 238 239))
     ∷ call (outcome (Accepted 10) (buffer 0 0x00 238 239))
     ∷ load (
-        loadOutcome (
-            record {
-              answer = Accepted 9;
-              table = laid (emptyTable 256) (
-                  record { id = record { 0 = 0 }; status = Aborted }
-                  ∷ record { id = record { 0 = 1 }; status = Committed (record { 0 = 0 }) }
-                  ∷ record { id = record { 0 = 2 }; status = Aborted }
-                  ∷ []);
-            }) (buffer 0x3B 238 239 238))
+    loadOutcome (
+    record {
+      answer = Accepted 9;
+      table = laid (emptyTable 256) (
+          record { id = record { 0 = 0 }; status = Aborted }
+          ∷ record { id = record { 0 = 1 }; status = Committed (record { 0 = 0 }) }
+          ∷ record { id = record { 0 = 2 }; status = Aborted }
+          ∷ []);
+    }) (buffer 0x3B 238 239 238))
     ∷ []
 unfolding clogMagic lay decided bitsOf withBits highBits setSlot cleared clearSlots codes loadedStatus entryOf entriesFrom entriesIn inUse settledCode settledByte settled unfit recordNo compactNo loadNo recorded compacted tableBy loadDecided loaded
 values = refl

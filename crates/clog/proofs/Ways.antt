@@ -3,7 +3,7 @@
 use mathlib.Core.Path.{_≡_, refl, sym, ap, _∙_}
 use mathlib.Core.List.{List, [], _∷_, map}
 use mathlib.Core.Bool.{Bool, true, false, cond, _||_}
-use Prim.Native.Nat.{ℕ, zero, suc, _+_, _-_, _*_, _/_, _%_, _≤_, _<_, max}
+use Prim.Native.Nat.{ℕ, zero, suc, _+_, _-_, _/_, _%_, _≤_, _<_, max}
 use native.Mathlib.Numerals.{add-one}
 use native.Mathlib.Omega.{arith}
 use lib.Dec.{ltb, leb, lit<}
@@ -19,7 +19,7 @@ use Rattle.fields.proofs.AnswerLaws.{outcome-refused, outcome-accepted}
 use Rattle.table.specs.declared.Table.{Table}
 use Rattle.table.specs.declared.Entry.{Entry}
 use Rattle.table.specs.Entries.{emptyTable, laid}
-use Rattle.clog.specs.Slots.{clogMagic, validClog, openClog, withBits, highBits, setSlot, cleared, clearSlots, spanBelow, entriesIn, inUse, settledByte, settled}
+use Rattle.clog.specs.Slots.{clogMagic, validClog, openClog, withBits, highBits, setSlot, cleared, clearSlots, entriesIn, inUse, settledByte, settled}
 use Rattle.clog.specs.Calls.{unfit, resetNo, recordNo, compactNo, loadNo, opened, wiped, recorded, compacted, LoadOutcome, loadOutcome, tableBy, loadDecided, loaded, seen, seenOf}
 use Rattle.clog.proofs.FourSlots.{high-none}
 
@@ -39,30 +39,30 @@ fit-means least size len h = go (ltb 1048576 size) (ltb size len) (ltb len least
     go false false true p q r h = let z : _≡_ {A = ℕ} 0 1 = cc in absurd (omega arith)
     go false false false p q r h = (ltb-false _ _ p, ltb-false _ _ q, ltb-false _ _ r)
 
-pub reset-fits : (size len : ℕ) → resetNo size len ≡ 0 → (size ≤ 1048576) × (len ≤ size) × (8 ≤ size)
+pub reset-fits : (size len number : ℕ) → number ≡ resetNo size len → number ≡ 0 → (size ≤ 1048576) × (len ≤ size) × (8 ≤ size)
 unfolding resetNo
-reset-fits size len h =
-    let p = passed (unfit 0 size len) 1 (cond (ltb size 8) 6 0) (lit< tt) h in
+reset-fits size len number e z =
+    let p = passed (unfit 0 size len) 1 (cond (ltb size 8) 6 0) (lit< tt) (sym e ∙ z) in
     let q = passed (ltb size 8) 6 0 (lit< tt) (p .1) in
     let f = fit-means 0 size len (p .0) in
     (f .0, f .1, ltb-false _ _ (q .0))
 
-pub record-fits : (h base id size len : ℕ) → recordNo h base id size len ≡ 0 → (size ≤ 1048576) × (len ≤ size) × (h ≤ len) × (h + (id - base) / 4 < size)
+pub record-fits : (h base id size len number : ℕ) → number ≡ recordNo h base id size len → number ≡ 0 → (size ≤ 1048576) × (len ≤ size) × (h ≤ len) × (h + (id - base) / 4 < size)
 unfolding recordNo
-record-fits h base id size len z =
-    let p = passed (unfit h size len) 1 (cond (leb size (h + (id - base) / 4)) 6 0) (lit< tt) z in
+record-fits h base id size len number e z =
+    let p = passed (unfit h size len) 1 (cond (leb size (h + (id - base) / 4)) 6 0) (lit< tt) (sym e ∙ z) in
     let q = passed (leb size (h + (id - base) / 4)) 6 0 (lit< tt) (p .1) in
     let f = fit-means h size len (p .0) in
     (f .0, f .1, f .2, leb-false _ _ (q .0))
 
-pub compact-fits : (h size len : ℕ) → compactNo h size len ≡ 0 → (size ≤ 1048576) × (len ≤ size) × (h ≤ len)
+pub compact-fits : (h size len number : ℕ) → number ≡ compactNo h size len → number ≡ 0 → (size ≤ 1048576) × (len ≤ size) × (h ≤ len)
 unfolding compactNo
-compact-fits h size len z = fit-means h size len (passed (unfit h size len) 1 0 (lit< tt) z .0)
+compact-fits h size len number e z = fit-means h size len (passed (unfit h size len) 1 0 (lit< tt) (sym e ∙ z) .0)
 
-pub load-fits : (N h : ℕ) (f : File) → loadNo N h f ≡ 0 → (room f ≤ 1048576) × (f .len ≤ room f) × (h ≤ f .len) × (inUse h (content f) ≤ N)
+pub load-fits : (N h : ℕ) (f : File) (number : ℕ) → number ≡ loadNo N h f → number ≡ 0 → (room f ≤ 1048576) × (f .len ≤ room f) × (h ≤ f .len) × (inUse h (content f) ≤ N)
 unfolding loadNo
-load-fits N h f z =
-    let p = passed (unfit h (room f) (f .len)) 1 (cond (ltb N (inUse h (content f))) 7 0) (lit< tt) z in
+load-fits N h f number e z =
+    let p = passed (unfit h (room f) (f .len)) 1 (cond (ltb N (inUse h (content f))) 7 0) (lit< tt) (sym e ∙ z) in
     let q = passed (ltb N (inUse h (content f))) 7 0 (lit< tt) (p .1) in
     let g = fit-means h (room f) (f .len) (p .0) in
     (g .0, g .1, g .2, ltb-false _ _ (q .0))
@@ -151,31 +151,31 @@ pub load-made : (N n : ℕ) (l : List Entry) (old new : File) (o : Outcome) (t :
 unfolding loadDecided
 load-made N n l old new o t p q = rw (p, q)
 
-module _ (bytes : List ℕ) (len no : ℕ) where
-  refuse : (n : ℕ) (new : File) → no ≡ n → (no ≡ 0 → ⊥) → outcome (Refused no) bytes ≡ decided n (fileOf bytes len) new
-  refuse n new e z = outcome-refused no n (fileOf bytes len) new bytes (not-0 no z) (sym e) refl
+module _ (bytes : List ℕ) (len number : ℕ) where
+  refuse : (n : ℕ) (new : File) → number ≡ n → (number ≡ 0 → ⊥) → outcome (Refused number) bytes ≡ decided n (fileOf bytes len) new
+  refuse n new e z = outcome-refused number n (fileOf bytes len) new bytes (not-0 number z) (sym e) refl
 
-  pub wiped-no : no ≡ resetNo (length bytes) len → (no ≡ 0 → ⊥) → outcome (Refused no) bytes ≡ wiped (fileOf bytes len)
+  pub wiped-no : number ≡ resetNo (length bytes) len → (number ≡ 0 → ⊥) → outcome (Refused number) bytes ≡ wiped (fileOf bytes len)
   unfolding wiped
   wiped-no e z = refuse _ _ e z
 
-  pub opened-no : no ≡ resetNo (length bytes) len → (no ≡ 0 → ⊥) → outcome (Refused no) bytes ≡ opened (fileOf bytes len)
+  pub opened-no : number ≡ resetNo (length bytes) len → (number ≡ 0 → ⊥) → outcome (Refused number) bytes ≡ opened (fileOf bytes len)
   unfolding opened
   opened-no e z = refuse _ _ e z
 
-  pub recorded-no : (h base id c : ℕ) → no ≡ recordNo h base id (length bytes) len → (no ≡ 0 → ⊥) → outcome (Refused no) bytes ≡ recorded h base (fileOf bytes len) id c
+  pub recorded-no : (h base id c : ℕ) → number ≡ recordNo h base id (length bytes) len → (number ≡ 0 → ⊥) → outcome (Refused number) bytes ≡ recorded h base (fileOf bytes len) id c
   unfolding recorded
   recorded-no h base id c e z = refuse _ _ e z
 
-  pub compacted-no : (h base w : ℕ) → no ≡ compactNo h (length bytes) len → (no ≡ 0 → ⊥) → outcome (Refused no) bytes ≡ compacted h base (fileOf bytes len) w
+  pub compacted-no : (h base w : ℕ) → number ≡ compactNo h (length bytes) len → (number ≡ 0 → ⊥) → outcome (Refused number) bytes ≡ compacted h base (fileOf bytes len) w
   unfolding compacted
   compacted-no h base w e z = refuse _ _ e z
 
-  pub loaded-no : (N h base : ℕ) (t : Table) → no ≡ loadNo N h (fileOf bytes len) → (no ≡ 0 → ⊥) → t ≡ emptyTable N
-      → loadOutcome (record { answer = Refused no; table = t }) bytes ≡ loaded N h base (fileOf bytes len)
+  pub loaded-no : (N h base : ℕ) (t : Table) → number ≡ loadNo N h (fileOf bytes len) → (number ≡ 0 → ⊥) → t ≡ emptyTable N
+      → loadOutcome (record { answer = Refused number; table = t }) bytes ≡ loaded N h base (fileOf bytes len)
   unfolding loaded
   loaded-no N h base t e z q =
-      load-made N (loadNo N h (fileOf bytes len)) _ (fileOf bytes len) (settled h (fileOf bytes len)) (outcome (Refused no) bytes) t (refuse _ _ e z) (rw (← e) (go no z))
+      load-made N (loadNo N h (fileOf bytes len)) _ (fileOf bytes len) (settled h (fileOf bytes len)) (outcome (Refused number) bytes) t (refuse _ _ e z) (rw (← e) (go number z))
     where
       go : (n : ℕ) → (n ≡ 0 → ⊥) → t ≡ tableBy N n (entriesIn h base (take len bytes))
       go zero z = absurd (z refl)
@@ -183,36 +183,36 @@ module _ (bytes : List ℕ) (len no : ℕ) where
 
   -- accepted
 
-  pub wiped-done : (buf : List ℕ) → no ≡ resetNo (length bytes) len → no ≡ 0 → buf ≡ sets bytes 0 clogMagic → outcome (Accepted 8) buf ≡ wiped (fileOf bytes len)
+  pub wiped-done : (buf : List ℕ) → number ≡ resetNo (length bytes) len → number ≡ 0 → buf ≡ sets bytes 0 clogMagic → outcome (Accepted 8) buf ≡ wiped (fileOf bytes len)
   unfolding wiped header clogMagic
   wiped-done buf e z q = outcome-accepted 8 _ (fileOf bytes len) (header clogMagic (fileOf bytes len)) buf (sym e ∙ z) (rw q)
 
-  pub opened-kept : no ≡ resetNo (length bytes) len → no ≡ 0 → validClog (fileOf bytes len) ≡ true → outcome (Accepted len) bytes ≡ opened (fileOf bytes len)
+  pub opened-kept : number ≡ resetNo (length bytes) len → number ≡ 0 → validClog (fileOf bytes len) ≡ true → outcome (Accepted len) bytes ≡ opened (fileOf bytes len)
   unfolding opened openClog
   opened-kept e z v = outcome-accepted len _ (fileOf bytes len) (openClog (fileOf bytes len)) bytes (sym e ∙ z) (rw v)
 
-  pub opened-reset : (buf : List ℕ) → no ≡ resetNo (length bytes) len → no ≡ 0 → validClog (fileOf bytes len) ≡ false → buf ≡ sets bytes 0 clogMagic
+  pub opened-reset : (buf : List ℕ) → number ≡ resetNo (length bytes) len → number ≡ 0 → validClog (fileOf bytes len) ≡ false → buf ≡ sets bytes 0 clogMagic
       → outcome (Accepted 8) buf ≡ opened (fileOf bytes len)
   unfolding opened openClog header
   opened-reset buf e z v q =
       let n : length clogMagic ≡ 8 = unfold clogMagic in refl in
       outcome-accepted 8 _ (fileOf bytes len) (openClog (fileOf bytes len)) buf (sym e ∙ z) (rw (v, n, q))
 
-  pub recorded-done : (h base id c n : ℕ) (buf : List ℕ) (b : ℕ) → no ≡ recordNo h base id (length bytes) len → no ≡ 0
+  pub recorded-done : (h base id c n : ℕ) (buf : List ℕ) (b : ℕ) → number ≡ recordNo h base id (length bytes) len → number ≡ 0
       → buf ≡ sets bytes len (replicate (h + (id - base) / 4 + 1 - len) 0) → b ≡ withBits ((id - base) % 4) c (getD buf (h + (id - base) / 4) 0)
       → n ≡ max len (h + (id - base) / 4 + 1)
       → outcome (Accepted n) (set buf (h + (id - base) / 4) b) ≡ recorded h base (fileOf bytes len) id c
   unfolding recorded
   recorded-done h base id c n buf b e z q g m =
-      let f = record-fits h base id (length bytes) len (sym e ∙ z) in
+      let f = record-fits h base id (length bytes) len number e z in
       outcome-accepted n _ (fileOf bytes len) (setSlot h (id - base) c (fileOf bytes len)) _ (sym e ∙ z) (rw m (slot-set h (id - base) c len bytes buf b (f .3) q g))
 
-  pub compacted-done : (h base w v : ℕ) (buf : List ℕ) → no ≡ compactNo h (length bytes) len → no ≡ 0 → v ≡ w - base → buf ≡ sets bytes h (cleared v (drop h (take len bytes)))
+  pub compacted-done : (h base w v : ℕ) (buf : List ℕ) → number ≡ compactNo h (length bytes) len → number ≡ 0 → v ≡ w - base → buf ≡ sets bytes h (cleared v (drop h (take len bytes)))
       → outcome (Accepted len) buf ≡ compacted h base (fileOf bytes len) w
   unfolding compacted clearSlots
   compacted-done h base w v buf e z p q = outcome-accepted len _ (fileOf bytes len) (clearSlots h (w - base) (fileOf bytes len)) buf (sym e ∙ z) (rw (q, p))
 
-  module _ (N h base : ℕ) (t : Table) (e : no ≡ loadNo N h (fileOf bytes len)) (z : no ≡ 0) (q : t ≡ laid (emptyTable N) (entriesIn h base (take len bytes))) where
+  module _ (N h base : ℕ) (t : Table) (e : number ≡ loadNo N h (fileOf bytes len)) (z : number ≡ 0) (q : t ≡ laid (emptyTable N) (entriesIn h base (take len bytes))) where
     listed : t ≡ tableBy N (loadNo N h (fileOf bytes len)) (entriesIn h base (take len bytes))
     unfolding tableBy
     listed = rw (← e, z) q

@@ -3,7 +3,7 @@
 use Prim.Native.Nat.{ℕ, zero, suc, _+_, _-_, _/_, _%_}
 use mathlib.Core.List.{List, [], _∷_}
 use mathlib.Core.Bool.{Bool, cond, _||_}
-use lib.ListN.{length, set}
+use lib.ListN.{set}
 use lib.Dec.{ltb, leb, eqb}
 use Rattle.fields.specs.Files.{File, content, room, header}
 use Rattle.fields.specs.Answers.{Told, told, Outcome, decided}

@@ -255,7 +255,11 @@ fn span(n: usize, w: u64) -> usize
 pub fn span_below(len: usize, below: TransactionId) -> usize
     ensures { λ r. ⌜ r ≡ spanBelow (len - 8) (below .0) ⌝ }
 {
-    let n = if len < numbers::HEADER { 0 } else { len - numbers::HEADER };
+    let n = if len < numbers::HEADER {
+        0
+    } else {
+        len - numbers::HEADER
+    };
     span(n, below.0)
 }
 

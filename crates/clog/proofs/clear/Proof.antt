@@ -1,11 +1,11 @@
+-- `clog::clear` meets its contract. The loop's invariant: clearing what is left, from the place and the w that are left, gives what was asked for. The measure is how many bytes are left. Assumes nothing.
 use mathlib.Core.Path.{_≡_, refl, sym, _∙_}
 use Prim.Native.Nat.{_-_, _*_, _≤_}
 use native.Mathlib.Omega.{arith}
 use borrow.Author.Needs.{needs}
 use lib.ListN.{length, length-set}
 use lib.Seq.{sets, slice}
-use Rattle.clog.specs.Slots.{cleared}
-use Rattle.clog.specs.Slots.{spanBelow}
+use Rattle.clog.specs.Slots.{cleared, spanBelow}
 use Rattle.clog.proofs.Ways.{clear-turn, clear-end}
 use Rattle.clog.proofs.clear.Statement.{statement}
 use Rattle.clog.proofs.clear.Tie as tie
@@ -49,14 +49,22 @@ loop-less : tie.Need-loop-less Inv-loop μ-loop
 loop-less c = omega arith
 
 loop-again : tie.Need-loop-again Inv-loop μ-loop
-loop-again c = let l = c .before .before .before .before .loop in let a = c .before .before .before .before .before .before .before .args in (omega arith, omega arith, omega arith, simp length-set (l .inv .3), omega (arith, c .less4 .ensures), rw (c .less4 .ensures) (clear-turn (l .clog) (l .i) (a .len) (l .left) (c .before .high-bits .result) (omega arith) (omega arith) (c .before .high-bits .ensures) ∙ l .inv .5))
+loop-again c =
+    let l = c .before .before .before .before .loop in
+    let a = c .before .before .before .before .before .before .before .args in
+    let t = clear-turn (l .clog) (l .i) (a .len) (l .left) (c .before .high-bits .result) (omega arith) (omega arith) (c .before .high-bits .ensures) in
+    (omega arith, omega arith, omega arith, simp length-set (l .inv .3), omega (arith, c .less4 .ensures), rw (c .less4 .ensures) (t ∙ l .inv .5))
 
 same-length : tie.Need-same-length Inv-loop μ-loop
 same-length c = c .before .loop .inv .3
 
 returns : tie.Need-returns Inv-loop μ-loop
 unfolding spanBelow
-returns c = let l = c .before .loop in sym (clear-end (l .clog) (l .i) (c .before .before .before .before .args .len) (l .left) (omega arith) (omega arith) (λ p. omega (arith, c .before .before .span .ensures))) ∙ l .inv .5
+returns c =
+    let l = c .before .loop in
+    let e = c .before .before in
+    let z = clear-end (l .clog) (l .i) (e .before .before .args .len) (l .left) (omega arith) (omega arith) (λ p. omega (arith, e .span .ensures)) in
+    sym z ∙ l .inv .5
 
 pub clear-spec : {M : Type 1} → statement M
 clear-spec =

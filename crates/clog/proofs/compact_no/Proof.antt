@@ -1,5 +1,6 @@
+-- `clog::compact_no` meets its contract: its one test decides. Assumes nothing.
 use borrow.Author.Needs.{needs}
-use mathlib.Core.Path.{_≡_, sym, _∙_}
+use mathlib.Core.Path.{sym, _∙_}
 use Rattle.clog.specs.Calls.{compactNo}
 use Rattle.clog.proofs.compact_no.Statement.{statement}
 use Rattle.clog.proofs.compact_no.Tie as tie

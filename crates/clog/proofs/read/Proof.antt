@@ -1,10 +1,10 @@
+-- `clog::read` meets its contract: what load tells and its table, with no byte changed. Assumes nothing.
 use borrow.Author.Needs.{needs}
-use mathlib.Core.Path.{_≡_, sym, ap, _∙_}
+use mathlib.Core.Path.{sym, ap, _∙_}
 use native.Mathlib.Omega.{arith}
 use lib.Seq.{length-take-le}
 use lib.ListN.{take}
-use Rattle.fields.specs.Files.{fileOf}
-use Rattle.clog.specs.Calls.{LoadOutcome, seenOf}
+use Rattle.clog.specs.Calls.{seenOf}
 use Rattle.clog.proofs.Ways.{load-fits, loaded-no, loaded-seen}
 use Rattle.clog.proofs.Codes.{many}
 use Rattle.clog.proofs.read.Statement.{statement}
@@ -17,16 +17,30 @@ empty-requires : tie.Need-empty-requires
 empty-requires c κs = search needs
 
 returns : tie.Need-returns
-returns c = ap seenOf (loaded-no (c .before .before .before .before .args .clog .now) (c .before .before .before .before .args .len) _ 256 8 0 _ (c .before .before .load-no .ensures) (c .before .if1 .taken) (c .empty .ensures))
+returns c =
+    let a = c .before .before .before .before .args in
+    ap seenOf (loaded-no (a .clog .now) (a .len) _ 256 8 0 _ (c .before .before .load-no .ensures) (c .before .if1 .taken) (c .empty .ensures))
 
 slice-aggregate-list-in : tie.Need-slice-aggregate-list-in
-slice-aggregate-list-in c = let f = load-fits 256 8 _ (sym (c .before .before .load-no .ensures) ∙ c .before .if1 .left) in sym (length-take-le _ _ (f .1))
+slice-aggregate-list-in c =
+    let e = c .before in
+    let f = load-fits 256 8 _ _ (e .before .load-no .ensures) (e .if1 .left) in
+    sym (length-take-le _ _ (f .1))
 
 list-in-requires : tie.Need-list-in-requires
-list-in-requires c κs = let a = c .before .before .before .before .args in let f = load-fits 256 8 _ (sym (c .before .before .load-no .ensures) ∙ c .before .if1 .left) in let n = length-take-le (a .len) (a .clog .now) (f .1) in let m = many 8 0 (take (a .len) (a .clog .now)) in (omega arith, omega arith, omega arith, omega arith)
+list-in-requires c κs =
+    let e = c .before in
+    let a = e .before .before .before .args in
+    let f = load-fits 256 8 _ _ (e .before .load-no .ensures) (e .if1 .left) in
+    let n = length-take-le (a .len) (a .clog .now) (f .1) in
+    let m = many 8 0 (take (a .len) (a .clog .now)) in
+    (omega arith, omega arith, omega arith, omega arith)
 
 returns-2 : tie.Need-returns-2
-returns-2 c = loaded-seen (c .before .before .before .before .before .args .clog .now) (c .before .before .before .before .before .args .len) _ 256 8 0 _ (c .before .before .before .load-no .ensures) (c .before .before .if1 .left) (c .list-in .ensures)
+returns-2 c =
+    let e = c .before .before in
+    let a = e .before .before .before .args in
+    loaded-seen (a .clog .now) (a .len) _ 256 8 0 _ (e .before .load-no .ensures) (e .if1 .left) (c .list-in .ensures)
 
 pub read-spec : {M : Type 1} → statement M
 read-spec =

@@ -1,5 +1,6 @@
+-- `clog::record` meets its contract: the status goes in as its code. Assumes nothing.
 use borrow.Author.Needs.{needs}
-use mathlib.Core.Path.{_≡_, sym, ap, _∙_}
+use mathlib.Core.Path.{ap, _∙_}
 use Prim.Native.Nat.{ℕ}
 use Rattle.fields.specs.Files.{fileOf}
 use Rattle.clog.specs.Calls.{recorded}
@@ -16,7 +17,9 @@ same-length : tie.Need-same-length
 same-length c = search needs
 
 returns : tie.Need-returns
-returns c = c .before .before .record-in .ensures ∙ ap (λ (x : ℕ). recorded 8 0 (fileOf (c .before .before .before .before .before .before .args .clog .now) (c .before .before .before .before .before .before .args .len)) (c .before .before .before .before .before .before .args .id .0) x) (c .before .before .before .before .code-of .ensures .0)
+returns c =
+    let a = c .before .before .before .before .before .before .args in
+    c .before .before .record-in .ensures ∙ ap (λ (x : ℕ). recorded 8 0 (fileOf (a .clog .now) (a .len)) (a .id .0) x) (c .before .before .before .before .code-of .ensures .0)
 
 pub record-spec : {M : Type 1} → statement M
 record-spec = tie.close (tie.spec code-of-requires record-in-requires same-length returns)

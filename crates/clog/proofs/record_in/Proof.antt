@@ -1,5 +1,6 @@
+-- `clog::record_in` meets its contract: a law of proofs/Ways.antt for each way out; that the number is 0 says that the byte lies in the buffer. Assumes nothing.
 use borrow.Author.Needs.{needs}
-use mathlib.Core.Path.{_≡_, sym, ap, _∙_}
+use mathlib.Core.Path.{sym, _∙_}
 use native.Mathlib.Omega.{arith}
 use Rattle.clog.proofs.Ways.{record-fits, recorded-no, recorded-done}
 use Rattle.clog.proofs.record_in.Statement.{statement}
@@ -9,31 +10,53 @@ record-no-requires : tie.Need-record-no-requires
 record-no-requires c κs = search needs
 
 returns : tie.Need-returns
-returns c = recorded-no (c .before .before .before .args .clog .now) (c .before .before .before .args .len) _ (c .before .before .before .args .h) (c .before .before .before .args .base) (c .before .before .before .args .id) (c .before .before .before .args .code) (c .before .record-no .ensures) (c .if1 .taken)
+returns c =
+    let a = c .before .before .before .args in
+    recorded-no (a .clog .now) (a .len) _ (a .h) (a .base) (a .id) (a .code) (c .before .record-no .ensures) (c .if1 .taken)
 
 sub-k : tie.Need-sub-k
 sub-k c = search needs
 
 add-at : tie.Need-add-at
-add-at c = let f = record-fits (c .before .before .before .args .h) (c .before .before .before .args .base) (c .before .before .before .args .id) _ (c .before .before .before .args .len) (sym (c .before .record-no .ensures) ∙ c .if1 .left) in omega arith
+add-at c =
+    let e = c in
+    let a = e .before .before .before .args in
+    let f = record-fits (a .h) (a .base) (a .id) _ (a .len) _ (e .before .record-no .ensures) (e .if1 .left) in
+    omega arith
 
 add-zero-fill : tie.Need-add-zero-fill
-add-zero-fill c = let f = record-fits (c .before .before .before .before .args .h) (c .before .before .before .before .args .base) (c .before .before .before .before .args .id) _ (c .before .before .before .before .args .len) (sym (c .before .before .record-no .ensures) ∙ c .before .if1 .left) in omega arith
+add-zero-fill c =
+    let e = c .before in
+    let a = e .before .before .before .args in
+    let f = record-fits (a .h) (a .base) (a .id) _ (a .len) _ (e .before .record-no .ensures) (e .if1 .left) in
+    omega arith
 
 zero-fill-requires : tie.Need-zero-fill-requires
 zero-fill-requires c κs = search needs
 
 slice-read-with-bits : tie.Need-slice-read-with-bits
-slice-read-with-bits c = let f = record-fits (c .before .before .before .before .before .before .before .before .args .h) (c .before .before .before .before .before .before .before .before .args .base) (c .before .before .before .before .before .before .before .before .args .id) _ (c .before .before .before .before .before .before .before .before .args .len) (sym (c .before .before .before .before .before .before .record-no .ensures) ∙ c .before .before .before .before .before .if1 .left) in omega (arith, c .before .before .before .zero-fill .kept .0)
+slice-read-with-bits c =
+    let e = c .before .before .before .before .before in
+    let a = e .before .before .before .args in
+    let f = record-fits (a .h) (a .base) (a .id) _ (a .len) _ (e .before .record-no .ensures) (e .if1 .left) in
+    omega (arith, c .before .before .before .zero-fill .kept .0)
 
 with-bits-requires : tie.Need-with-bits-requires
 with-bits-requires c κs = search needs
 
 slice-write-clog : tie.Need-slice-write-clog
-slice-write-clog c = let f = record-fits (c .before .before .before .before .before .before .before .before .before .args .h) (c .before .before .before .before .before .before .before .before .before .args .base) (c .before .before .before .before .before .before .before .before .before .args .id) _ (c .before .before .before .before .before .before .before .before .before .args .len) (sym (c .before .before .before .before .before .before .before .record-no .ensures) ∙ c .before .before .before .before .before .before .if1 .left) in omega (arith, c .before .before .before .before .zero-fill .kept .0)
+slice-write-clog c =
+    let e = c .before .before .before .before .before .before in
+    let a = e .before .before .before .args in
+    let f = record-fits (a .h) (a .base) (a .id) _ (a .len) _ (e .before .record-no .ensures) (e .if1 .left) in
+    omega (arith, c .before .before .before .before .zero-fill .kept .0)
 
 add-larger : tie.Need-add-larger
-add-larger c = let f = record-fits (c .before .before .before .before .before .before .before .before .before .args .h) (c .before .before .before .before .before .before .before .before .before .args .base) (c .before .before .before .before .before .before .before .before .before .args .id) _ (c .before .before .before .before .before .before .before .before .before .args .len) (sym (c .before .before .before .before .before .before .before .record-no .ensures) ∙ c .before .before .before .before .before .before .if1 .left) in omega arith
+add-larger c =
+    let e = c .before .before .before .before .before .before in
+    let a = e .before .before .before .args in
+    let f = record-fits (a .h) (a .base) (a .id) _ (a .len) _ (e .before .record-no .ensures) (e .if1 .left) in
+    omega arith
 
 larger-requires : tie.Need-larger-requires
 larger-requires c κs = search needs
@@ -42,7 +65,10 @@ same-length : tie.Need-same-length
 same-length c = search needs
 
 returns-2 : tie.Need-returns-2
-returns-2 c = recorded-done (c .before .before .before .before .before .before .before .before .before .before .args .clog .now) (c .before .before .before .before .before .before .before .before .before .before .args .len) _ (c .before .before .before .before .before .before .before .before .before .before .args .h) (c .before .before .before .before .before .before .before .before .before .before .args .base) (c .before .before .before .before .before .before .before .before .before .before .args .id) (c .before .before .before .before .before .before .before .before .before .before .args .code) _ _ _ (c .before .before .before .before .before .before .before .before .record-no .ensures) (c .before .before .before .before .before .before .before .if1 .left) (c .before .before .before .before .before .zero-fill .ensures) (c .before .with-bits .ensures) (c .larger .ensures)
+returns-2 c =
+    let e = c .before .before .before .before .before .before .before in
+    let a = e .before .before .before .args in
+    recorded-done (a .clog .now) (a .len) _ (a .h) (a .base) (a .id) (a .code) _ _ _ (e .before .record-no .ensures) (e .if1 .left) (c .before .before .before .before .before .zero-fill .ensures) (c .before .with-bits .ensures) (c .larger .ensures)
 
 pub record-in-spec : {M : Type 1} → statement M
 record-in-spec =

@@ -1,8 +1,9 @@
+-- `clog::record_no` meets its contract: each test that fails decides; the room after the header is compared, which is the definition's test. Assumes nothing.
 use borrow.Author.Needs.{needs}
-use mathlib.Core.Path.{_≡_, sym, _∙_}
+use mathlib.Core.Path.{sym, _∙_}
 use Prim.Native.Nat.{_+_, _-_, _/_}
 use native.Mathlib.Omega.{arith}
-use borrow.Author.Tests.{lt-ltb, le-ltb, le-leb, lt-leb}
+use borrow.Author.Tests.{le-leb, lt-leb}
 use Rattle.clog.specs.Calls.{recordNo}
 use Rattle.clog.proofs.Ways.{fit-means}
 use Rattle.clog.proofs.record_no.Statement.{statement}
@@ -23,11 +24,19 @@ sub-if2 c = omega (arith, fit-means _ _ _ (sym (c .before .bad-length .ensures) 
 
 returns-2 : tie.Need-returns-2
 unfolding recordNo
-returns-2 c = let a = c .before .before .before .args in let f = fit-means (a .h) (a .size) (a .len) (sym (c .before .before .bad-length .ensures) ∙ c .before .if1 .left) in rw (sym (c .before .before .bad-length .ensures) ∙ c .before .if1 .left, le-leb (a .size) (a .h + (a .id - a .base) / 4) (omega arith))
+returns-2 c =
+    let u = sym (c .before .before .bad-length .ensures) ∙ c .before .if1 .left in
+    let a = c .before .before .before .args in
+    let f = fit-means (a .h) (a .size) (a .len) u in
+    rw (u, le-leb (a .size) (a .h + (a .id - a .base) / 4) (omega arith))
 
 returns-3 : tie.Need-returns-3
 unfolding recordNo
-returns-3 c = let a = c .before .before .before .args in let f = fit-means (a .h) (a .size) (a .len) (sym (c .before .before .bad-length .ensures) ∙ c .before .if1 .left) in rw (sym (c .before .before .bad-length .ensures) ∙ c .before .if1 .left, lt-leb (a .size) (a .h + (a .id - a .base) / 4) (omega arith))
+returns-3 c =
+    let u = sym (c .before .before .bad-length .ensures) ∙ c .before .if1 .left in
+    let a = c .before .before .before .args in
+    let f = fit-means (a .h) (a .size) (a .len) u in
+    rw (u, lt-leb (a .size) (a .h + (a .id - a .base) / 4) (omega arith))
 
 pub record-no-spec : {M : Type 1} → statement M
 record-no-spec =

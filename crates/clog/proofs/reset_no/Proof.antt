@@ -1,6 +1,7 @@
+-- `clog::reset_no` meets its contract: each test that fails decides. Assumes nothing.
 use borrow.Author.Needs.{needs}
-use mathlib.Core.Path.{_≡_, sym, _∙_}
-use borrow.Author.Tests.{lt-ltb, le-ltb, le-leb, lt-leb}
+use mathlib.Core.Path.{sym, _∙_}
+use borrow.Author.Tests.{lt-ltb, le-ltb}
 use Rattle.clog.specs.Calls.{resetNo}
 use Rattle.clog.proofs.reset_no.Statement.{statement}
 use Rattle.clog.proofs.reset_no.Tie as tie

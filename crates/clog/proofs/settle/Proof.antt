@@ -1,3 +1,4 @@
+-- `clog::settle` meets its contract. The loop's invariant: settling what is left gives what was asked for. The measure is how many bytes are left. Assumes nothing.
 use mathlib.Core.Path.{_≡_, refl, sym, _∙_}
 use mathlib.Core.List.{map}
 use Prim.Native.Nat.{_-_}
@@ -35,13 +36,19 @@ loop-less : tie.Need-loop-less Inv-loop μ-loop
 loop-less c = omega arith
 
 loop-again : tie.Need-loop-again Inv-loop μ-loop
-loop-again c = let l = c .before .before .before .loop in let a = c .before .before .before .before .before .args in (simp length-set (l .inv .0), settle-turn (l .clog) (l .i) (a .len) (omega arith) (omega arith) (c .settled-byte .result) (c .settled-byte .ensures) ∙ l .inv .1)
+loop-again c =
+    let l = c .before .before .before .loop in
+    let a = c .before .before .before .before .before .args in
+    let t = settle-turn (l .clog) (l .i) (a .len) (omega arith) (omega arith) (c .settled-byte .result) (c .settled-byte .ensures) in
+    (simp length-set (l .inv .0), t ∙ l .inv .1)
 
 same-length : tie.Need-same-length Inv-loop μ-loop
 same-length c = c .before .loop .inv .0
 
 returns : tie.Need-returns Inv-loop μ-loop
-returns c = let l = c .before .loop in sym (settle-end (l .clog) (l .i) (c .before .before .before .args .len) (omega arith)) ∙ l .inv .1
+returns c =
+    let l = c .before .loop in
+    sym (settle-end (l .clog) (l .i) (c .before .before .before .args .len) (omega arith)) ∙ l .inv .1
 
 pub settle-spec : {M : Type 1} → statement M
 settle-spec =

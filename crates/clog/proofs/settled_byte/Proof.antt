@@ -1,4 +1,4 @@
-use Prim.Native.Nat.{_-_}
+-- `clog::settled_byte` meets its contract: the four slots settled and put together. Assumes nothing.
 use borrow.Author.Needs.{needs}
 use Rattle.clog.proofs.FourSlots.{settled-made}
 use Rattle.clog.proofs.settled_byte.Statement.{statement}
@@ -35,7 +35,9 @@ add-result-3 : tie.Need-add-result-3
 add-result-3 c = search needs
 
 returns : tie.Need-returns
-returns c = settled-made _ _ _ _ _ (c .before .before .before .settled-code .ensures .0) (c .before .before .settled-code2 .ensures .0) (c .before .settled-code3 .ensures .0) (c .settled-code4 .ensures .0)
+returns c =
+    let d = c .before .before .before in
+    settled-made _ _ _ _ _ (d .settled-code .ensures .0) (c .before .before .settled-code2 .ensures .0) (c .before .settled-code3 .ensures .0) (c .settled-code4 .ensures .0)
 
 pub settled-byte-spec : {M : Type 1} → statement M
 settled-byte-spec =

@@ -1,4 +1,4 @@
-use Prim.Native.Nat.{_-_}
+-- `clog::slot_at` meets its contract: the slot's place in its byte is the remainder by 4. Assumes nothing.
 use borrow.Author.Needs.{needs}
 use Rattle.clog.specs.Slots.{slotOf}
 use Rattle.clog.proofs.FourSlots.{bits-small}

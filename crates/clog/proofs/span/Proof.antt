@@ -1,4 +1,4 @@
-use Prim.Native.Nat.{_-_}
+-- `clog::span` meets its contract: whole bytes, and one more where slots are left over. Assumes nothing.
 use native.Mathlib.Omega.{arith}
 use borrow.Author.Needs.{needs}
 use Rattle.clog.specs.Slots.{spanBelow}
