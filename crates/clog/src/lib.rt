@@ -11,7 +11,7 @@ use table::Table;
 ghost use mathlib.Core.Path.{_≡_};
 ghost use mathlib.Core.List.{map};
 ghost use mathlib.Core.Bool.{cond};
-ghost use Prim.Native.Nat.{_+_, _-_, _/_, _^_, _<_, _≤_, max};
+ghost use Prim.Native.Nat.{_+_, _-_, _/_, _^_, _<_, _≤_};
 ghost use lib.ListN.{length, take, drop, getD};
 ghost use lib.Seq.{sets};
 ghost use lib.Dec.{eqb};
@@ -205,12 +205,6 @@ pub fn open(clog: &mut [u8], len: usize) -> Answer
 
 // ---- record
 
-fn larger(a: usize, b: usize) -> usize
-    ensures { λ r. ⌜ r ≡ max a b ⌝ }
-{
-    if a < b { b } else { a }
-}
-
 // Zeros go from the length through the slot's byte: a byte past the length counts as 0, whatever the buffer has there.
 fn record_in(clog: &mut [u8], len: usize, h: usize, base: u64, id: u64, code: u8) -> Answer
     requires { ⌜ (base ≤ id) × (code < 4) ⌝ }
@@ -225,7 +219,7 @@ fn record_in(clog: &mut [u8], len: usize, h: usize, base: u64, id: u64, code: u8
     fields::zero_fill(clog, len, at + 1);
     let b = with_bits(clog[at], k % 4, code);
     clog[at] = b;
-    Answer::Accepted(larger(len, at + 1))
+    Answer::Accepted(fields::larger(len, at + 1))
 }
 
 pub fn record(clog: &mut [u8], len: usize, id: TransactionId, status: Status) -> Answer

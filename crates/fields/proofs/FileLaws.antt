@@ -1,12 +1,15 @@
 -- Laws of files: sizes, what the file holds after something was laid into it, byte by byte and whole, and after it was cut back to its header. Assumes nothing.
 use mathlib.Core.Path.{_≡_, refl, sym, ap, _∙_}
 use mathlib.Core.List.{List, [], _∷_, _++_}
+use mathlib.Core.Bool.{Bool, true, false, _||_}
 use Prim.Native.Nat.{ℕ, zero, suc, _+_, _-_, _≤_, _<_, max}
 use native.Mathlib.Omega.{arith}
+use lib.Dec.{ltb}
+use borrow.Author.Tests.{lt-ltb, le-ltb, ltb-false}
 use lib.ListN.{length, take, drop, getD, replicate, length-append, length-take, length-replicate, getD-replicate, List·getD-eq-default}
 use lib.Seq.{sets, length-sets, sets-eq, length-take-le, getD-take, take-at}
 use Rattle.fields.specs.Bytes.{Bytes}
-use Rattle.fields.specs.Files.{File, fileOf, content, room, lay, append, header}
+use Rattle.fields.specs.Files.{File, fileOf, content, room, lay, append, header, unfit}
 use Rattle.fields.proofs.Tests.{Order, less, most, order}
 use Rattle.fields.proofs.Stored.{sets-before, sets-in, sets-after}
 
@@ -107,3 +110,23 @@ module _ (magic : List ℕ) (f : File) where
   header-content h =
       let l : 0 + length magic ≤ length (f .bytes) = omega arith in
       rw (sets-eq magic (f .bytes) 0 l) (take-at magic (drop (0 + length magic) (f .bytes)) (length magic) refl)
+
+-- ---- refusal 1
+
+module _ (limit size len : ℕ) where
+  pub fit-means : unfit limit size len ≡ false → (size ≤ limit) × (len ≤ size)
+  unfolding unfit
+  fit-means h = go (ltb limit size) (ltb size len) refl refl h
+    where
+      go : (x y : Bool) → ltb limit size ≡ x → ltb size len ≡ y → (x || y) ≡ false → (size ≤ limit) × (len ≤ size)
+      go true y p q h = let z : _≡_ {A = ℕ} 0 1 = cc in absurd (omega arith)
+      go false true p q h = let z : _≡_ {A = ℕ} 0 1 = cc in absurd (omega arith)
+      go false false p q h = (ltb-false _ _ p, ltb-false _ _ q)
+
+  pub unfit-size : limit < size → unfit limit size len ≡ true
+  unfolding unfit
+  unfit-size h = rw (lt-ltb limit size h)
+
+  pub unfit-len : size ≤ limit → ltb size len ≡ unfit limit size len
+  unfolding unfit
+  unfit-len h = rw (le-ltb limit size h)

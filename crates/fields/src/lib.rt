@@ -4,10 +4,11 @@
 pub mod numbers;
 
 ghost use mathlib.Core.Path.{_≡_};
-ghost use Prim.Native.Nat.{_-_, _^_, _≤_, _<_, min};
+ghost use Prim.Native.Nat.{_-_, _^_, _≤_, _<_, min, max};
 ghost use lib.ListN.{take, drop, replicate};
 ghost use lib.Seq.{sets};
 ghost use Rattle.fields.specs.Bytes.{leOf, bytesOf, starts};
+ghost use Rattle.fields.specs.Files.{unfit};
 
 // A transaction's number. It is never accepted as a time.
 pub struct TransactionId(pub u64);
@@ -19,6 +20,28 @@ pub struct CommitTime(pub u64);
 pub enum Answer {
     Accepted(usize),
     Refused(u8),
+}
+
+pub fn smaller(a: usize, b: usize) -> usize
+    ensures { λ r. ⌜ r ≡ min a b ⌝ }
+{
+    if a < b { a } else { b }
+}
+
+pub fn larger(a: usize, b: usize) -> usize
+    ensures { λ r. ⌜ r ≡ max a b ⌝ }
+{
+    if a < b { b } else { a }
+}
+
+// Whether a buffer is over its limit, or the length over the buffer.
+pub fn is_unfit(limit: usize, size: usize, len: usize) -> bool
+    ensures { λ r. ⌜ r ≡ unfit limit size len ⌝ }
+{
+    if limit < size {
+        return true;
+    }
+    size < len
 }
 
 fn wide(x: u8) -> u64

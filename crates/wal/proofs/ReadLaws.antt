@@ -13,11 +13,12 @@ use denote.Ref.{RefT, now}
 use lib.ListN.{length, take, drop, getD, length-append, length-take, length-drop, drop-of-length-le}
 use lib.Seq.{take-all, drop-cons, drop-drop, take-nil, take-take, take-at, drop-append-le, length-take-le}
 use Rattle.fields.specs.Bytes.{leOf, starts}
-use Rattle.fields.specs.Files.{File, fileOf, content, room}
+use Rattle.fields.specs.Files.{File, fileOf, content, room, unfit}
+use Rattle.fields.proofs.FileLaws.{fit-means}
 use Rattle.fields.specs.Answers.{Told}
 use Rattle.fields.proofs.Tests.{Order, less, most, order}
 use Rattle.wal.specs.Records.{logMagic, Record, image, begin, commit, abort, checkpoint, bodyOf, recordOf, Front, ended, torn, unknown, one, decode, Placed, clean, cut, strange, Parsed, joined, parse, startOf}
-use Rattle.wal.specs.Reading.{recordTold, readTold, saidOf, saidAt, unfit, outside, readIn, startIn, pageOf, placeOf, imageIn, placeIn, IsImage, shown, recordPlace, readPlace}
+use Rattle.wal.specs.Reading.{recordTold, readTold, saidOf, saidAt, outside, readIn, startIn, pageOf, placeOf, imageIn, placeIn, IsImage, shown, recordPlace, readPlace}
 use Rattle.wal.specs.declared.WalRecord.{WalRecord}
 use Rattle.wal.specs.declared.WalRecord.the-variants.{Image, Begin, Commit, Abort, Checkpoint}
 use Rattle.wal.specs.declared.Read.{Read}
@@ -58,25 +59,6 @@ readOf-told Outside = refl
 -- two answers that a contract allows are one
 pub read-told-same : (a b : Read) → readTold a ≡ readTold b → a ≡ b
 read-told-same a b e = sym (readOf-told a) ∙ ap readOf e ∙ readOf-told b
-
--- ---- refusal 1
-
-pub fit-means : (size len : ℕ) → unfit size len ≡ false → (size ≤ 16777216) × (len ≤ size)
-unfolding unfit
-fit-means size len h = go (ltb 16777216 size) (ltb size len) refl refl h
-  where
-    go : (x y : Bool) → ltb 16777216 size ≡ x → ltb size len ≡ y → (x || y) ≡ false → (size ≤ 16777216) × (len ≤ size)
-    go true y p q h = let z : _≡_ {A = ℕ} 0 1 = cc in absurd (omega arith)
-    go false true p q h = let z : _≡_ {A = ℕ} 0 1 = cc in absurd (omega arith)
-    go false false p q h = (ltb-false _ _ p, ltb-false _ _ q)
-
-pub unfit-size : (size len : ℕ) → 16777216 < size → unfit size len ≡ true
-unfolding unfit
-unfit-size size len h = rw (lt-ltb 16777216 size h)
-
-pub unfit-len : (size len : ℕ) → size ≤ 16777216 → ltb size len ≡ unfit size len
-unfolding unfit
-unfit-len size len h = rw (le-ltb 16777216 size h)
 
 -- ---- what the code computes, case by case
 
@@ -127,25 +109,25 @@ told-shown at (abort id) next = refl
 told-shown at checkpoint next = refl
 
 module _ (P : ℕ) (buf : List ℕ) (len at : ℕ) where
-  pub read-unfit : unfit (length buf) len ≡ true → readTold Outside ≡ readIn P (fileOf buf len) at
+  pub read-unfit : unfit 16777216 (length buf) len ≡ true → readTold Outside ≡ readIn P (fileOf buf len) at
   unfolding readIn outside
   read-unfit u = rw u
 
-  pub read-past : unfit (length buf) len ≡ false → len < at → readTold Outside ≡ readIn P (fileOf buf len) at
+  pub read-past : unfit 16777216 (length buf) len ≡ false → len < at → readTold Outside ≡ readIn P (fileOf buf len) at
   unfolding readIn outside
   read-past u l = rw (u, lt-ltb len at l)
 
-  inside : unfit (length buf) len ≡ false → at ≤ len → outside (fileOf buf len) at ≡ false
+  inside : unfit 16777216 (length buf) len ≡ false → at ≤ len → outside (fileOf buf len) at ≡ false
   unfolding outside
   inside u l = rw (u, le-ltb len at l)
 
-  pub read-in : unfit (length buf) len ≡ false → at ≤ len → readIn P (fileOf buf len) at ≡ saidAt at (decode P (drop at (take len buf)))
+  pub read-in : unfit 16777216 (length buf) len ≡ false → at ≤ len → readIn P (fileOf buf len) at ≡ saidAt at (decode P (drop at (take len buf)))
   unfolding readIn
   read-in u l = rw (inside u l)
 
-  module _ (u : unfit (length buf) len ≡ false) where
+  module _ (u : unfit 16777216 (length buf) len ≡ false) where
     fits : len ≤ length buf
-    fits = fit-means (length buf) len u .1
+    fits = fit-means 16777216 (length buf) len u .1
 
     long : length (take len buf) ≡ len
     long = length-take-le len buf fits
@@ -240,14 +222,14 @@ said-one : (at n : ℕ) (x : Record) (r : Read) → readTold r ≡ saidAt at (on
 said-one at n x r e =
     read-told-same r (Found (shown (at + 1) x) (at + n)) (e ∙ ap (λ (vs : List ℕ). record { number = 0; values = vs }) (sym (told-shown at x (at + n))))
 
-pub turn : (P : ℕ) (buf : List ℕ) (len at : ℕ) (r : Read) → unfit (length buf) len ≡ false → at ≤ len → readTold r ≡ readIn P (fileOf buf len) at → Turn P buf len at r
+pub turn : (P : ℕ) (buf : List ℕ) (len at : ℕ) (r : Read) → unfit 16777216 (length buf) len ≡ false → at ≤ len → readTold r ≡ readIn P (fileOf buf len) at → Turn P buf len at r
 turn P buf len at r u l e = go (front P (drop at (take len buf)))
   where
     s : List ℕ
     s = drop at (take len buf)
 
     size : length (drop at (take len buf)) ≡ len - at
-    size = simp (length-drop, length-take-le len buf (fit-means (length buf) len u .1))
+    size = simp (length-drop, length-take-le len buf (fit-means 16777216 (length buf) len u .1))
 
     told : readTold r ≡ saidAt at (decode P (drop at (take len buf)))
     told = e ∙ read-in P buf len at u l

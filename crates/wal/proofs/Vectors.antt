@@ -5,9 +5,9 @@ use mathlib.Core.Bool.{cond}
 use Prim.Native.Nat.{ℕ}
 use lib.ListN.{replicate, take}
 use Rattle.fields.specs.Bytes.{leOf, bytesOf, starts}
-use Rattle.fields.specs.Files.{fileOf}
+use Rattle.fields.specs.Files.{fileOf, unfit}
 use Rattle.wal.specs.Records.{logMagic, Record, image, begin, commit, abort, checkpoint, encode, bodyOf, recordOf, decode, clean, cut, strange, Parsed, parse, startOf, logOf}
-use Rattle.wal.specs.Reading.{unfit, outside, readIn}
+use Rattle.wal.specs.Reading.{outside, readIn}
 
 -- a list of logs, and what each holds
 pub record Case : Type 0 where

@@ -8,7 +8,7 @@ use mathlib.Core.Bool.{Bool, true, false, cond, _||_}
 use lib.ListN.{length, take, drop}
 use lib.Dec.{ltb}
 use denote.Ref.{RefT, now}
-use Rattle.fields.specs.Files.{File, fileOf, content, room}
+use Rattle.fields.specs.Files.{File, fileOf, content, room, unfit}
 use Rattle.fields.specs.Answers.{Told}
 use Rattle.wal.specs.Records.{Record, image, begin, commit, abort, checkpoint, Front, ended, torn, unknown, one, decode, startOf}
 use Rattle.wal.specs.declared.WalRecord.{WalRecord}
@@ -47,13 +47,9 @@ saidAt at (torn missing) = record { number = 2; values = missing ∷ [] }
 saidAt at unknown = record { number = 3; values = [] }
 saidAt at (one r n) = record { number = 0; values = saidOf at r (at + n) }
 
--- refusal 1 of a log by itself: its buffer's size, and its length
-unfoldable pub unfit : ℕ → ℕ → Bool
-unfit size len = ltb 16777216 size || ltb size len
-
 -- refusal 1 of a reading
 unfoldable pub outside : File → ℕ → Bool
-outside f at = unfit (room f) (f .len) || ltb (f .len) at
+outside f at = unfit 16777216 (room f) (f .len) || ltb (f .len) at
 
 unfoldable pub readIn : ℕ → File → ℕ → Told
 readIn P f at = cond (outside f at) (record { number = 1; values = [] }) (saidAt at (decode P (drop at (content f))))

@@ -7,7 +7,7 @@ use fields::numbers;
 ghost use mathlib.Core.Path.{_≡_};
 ghost use mathlib.Core.List.{_∷_, _++_};
 ghost use mathlib.Core.Bool.{true, false};
-ghost use Prim.Native.Nat.{_+_, _≤_, _<_, min};
+ghost use Prim.Native.Nat.{_+_, _≤_, _<_};
 ghost use lib.ListN.{length, take, drop};
 ghost use lib.Seq.{sets};
 ghost use lib.Dec.{eqb};
@@ -15,7 +15,7 @@ ghost use Rattle.fields.specs.Bytes.{bytesOf};
 ghost use Rattle.fields.specs.Files.{fileOf};
 ghost use Rattle.fields.specs.Answers.{outcome};
 ghost use Rattle.wal.specs.Records.{bodyOf, recordOf, encode, image, begin, commit, abort, checkpoint};
-ghost use Rattle.wal.specs.Reading.{readTold, unfit, readIn, startIn, IsImage, shown, recordPlace, readPlace};
+ghost use Rattle.wal.specs.Reading.{readTold, readIn, startIn, IsImage, shown, recordPlace, readPlace};
 ghost use Rattle.wal.specs.Writing.{appendNo, appendedBytes, appended, truncated};
 
 const PAGE_IMAGE_TAG: u8 = 1;
@@ -83,21 +83,11 @@ fn record_of(s: &[u8], tag: u8, body: usize) -> WalRecord
     }
 }
 
-// The buffer or the length is unfit for any call.
-fn bad_log(cap: usize, len: usize) -> bool
-    ensures { λ r. ⌜ r ≡ unfit cap len ⌝ }
-{
-    if numbers::BUFFER_LIMIT < cap {
-        return true;
-    }
-    cap < len
-}
-
 // The record at a place of the log, which is the first len bytes of the buffer.
 pub fn read_record(log: &[u8], len: usize, at: usize) -> Read
     ensures { λ r. ⌜ readTold r ≡ readIn 4096 (fileOf (now (log .entry)) len) at ⌝ }
 {
-    if bad_log(log.len(), len) {
+    if fields::is_unfit(numbers::BUFFER_LIMIT, log.len(), len) {
         return Read::Outside;
     }
     if len < at {
@@ -160,17 +150,11 @@ pub fn image(log: &[u8], len: usize, at: usize) -> &[u8]
     &log[place..end]
 }
 
-fn smaller(a: usize, b: usize) -> usize
-    ensures { λ r. ⌜ r ≡ min a b ⌝ }
-{
-    if a < b { a } else { b }
-}
-
 // Where the log's records start: after its magic, or at its end where it has none.
 pub fn start_of(log: &[u8], len: usize) -> usize
     ensures { λ r. ⌜ r ≡ startIn (fileOf (now (log .entry)) len) ⌝ }
 {
-    let end = smaller(len, log.len());
+    let end = fields::smaller(len, log.len());
     let s = &log[..end];
     if fields::begins(b"AEROWAL2", s) {
         return numbers::HEADER;
@@ -184,7 +168,7 @@ pub fn start_of(log: &[u8], len: usize) -> usize
 fn append_no(cap: usize, len: usize, size: usize, bad: bool) -> u8
     ensures { λ r. ⌜ r ≡ appendNo bad size cap len ⌝ }
 {
-    if bad_log(cap, len) {
+    if fields::is_unfit(numbers::BUFFER_LIMIT, cap, len) {
         return numbers::UNFIT;
     }
     if bad {
@@ -276,7 +260,7 @@ pub fn append_page(log: &mut [u8], len: usize, page: u32, bytes: &[u8; 4096]) ->
 pub fn truncate(log: &mut [u8], len: usize) -> Answer
     ensures { λ r. ⌜ outcome r (now (log .exit)) ≡ truncated (fileOf (now (log .entry)) len) ⌝ }
 {
-    if bad_log(log.len(), len) {
+    if fields::is_unfit(numbers::BUFFER_LIMIT, log.len(), len) {
         return Answer::Refused(numbers::UNFIT);
     }
     if log.len() < numbers::HEADER {

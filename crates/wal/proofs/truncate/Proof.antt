@@ -7,18 +7,18 @@ use Rattle.wal.proofs.WriteLaws.{truncate-1, truncate-4, truncate-0}
 use Rattle.wal.proofs.truncate.Statement.{statement}
 use Rattle.wal.proofs.truncate.Tie as tie
 
-bad-log-requires : tie.Need-bad-log-requires
-bad-log-requires c κs = search needs
+is-unfit-requires : tie.Need-is-unfit-requires
+is-unfit-requires c κs = search needs
 
 returns : tie.Need-returns
 returns c =
     let a = c .before .before .before .args in
-    truncate-1 (a .log .now) (a .len) (sym (c .before .bad-log .ensures) ∙ c .if1 .taken)
+    truncate-1 (a .log .now) (a .len) (sym (c .before .is-unfit .ensures) ∙ c .if1 .taken)
 
 returns-2 : tie.Need-returns-2
 returns-2 c =
     let a = c .before .before .before .before .args in
-    truncate-4 (a .log .now) (a .len) (sym (c .before .before .bad-log .ensures) ∙ c .before .if1 .left) (c .if2 .taken)
+    truncate-4 (a .log .now) (a .len) (sym (c .before .before .is-unfit .ensures) ∙ c .before .if1 .left) (c .if2 .taken)
 
 slice-aggregate-lay : tie.Need-slice-aggregate-lay
 slice-aggregate-lay c = search needs
@@ -33,13 +33,13 @@ returns-3 : tie.Need-returns-3
 unfolding logMagic
 returns-3 c =
     let a = c .before .before .before .before .before .before .before .before .before .args in
-    truncate-0 (a .log .now) (a .len) (c .before .before .lay .last .0) (sym (c .before .before .before .before .before .before .before .bad-log .ensures) ∙ c .before .before .before .before .before .before .if1 .left) (omega arith) (c .before .before .lay .ensures)
+    truncate-0 (a .log .now) (a .len) (c .before .before .lay .last .0) (sym (c .before .before .before .before .before .before .before .is-unfit .ensures) ∙ c .before .before .before .before .before .before .if1 .left) (omega arith) (c .before .before .lay .ensures)
 
 pub truncate-spec : {M : Type 1} → statement M
 truncate-spec =
     tie.close
     (tie.spec
-    bad-log-requires
+    is-unfit-requires
     returns
     returns-2
     slice-aggregate-lay
