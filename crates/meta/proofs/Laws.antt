@@ -10,40 +10,20 @@ use lib.Dec.{ltb, leb, eqb, lit<}
 use lib.ListN.{length, take, drop, getD, replicate, length-append, length-take, length-replicate}
 use lib.Seq.{sets, take-take, take-at, drop-at, drop-drop}
 use Rattle.fields.specs.Bytes.{leOf, bytesOf, starts}
-use Rattle.fields.specs.Files.{File, content, room}
+use Rattle.fields.specs.Files.{File, content, room, unfit}
+use Rattle.fields.proofs.FileLaws.{unfit-len}
 use Rattle.fields.specs.Answers.{Told}
 use Rattle.fields.proofs.Tests.{both, Order, less, most, order}
 use Rattle.fields.proofs.ByteLaws.{length-bytesOf, leOf-bytesOf}
 use Rattle.fields.proofs.Stored.{laid-next, starts-append}
 use Rattle.meta.specs.declared.Stored.{Stored}
 use Rattle.meta.specs.declared.Stored.the-variants.{Meta, Nothing, Outside}
-use Rattle.meta.specs.Page.{metaMagic, metaPage, unfit, hasMeta, field, storedNext, storedTime, storedMark, version, goodVersion, formatNo, counted, nothing, outside, storedTold, metaIn}
+use Rattle.meta.specs.Page.{metaMagic, metaPage, hasMeta, field, storedNext, storedTime, storedMark, version, goodVersion, formatNo, counted, nothing, outside, storedTold, metaIn}
 
 -- ---- a buffer and a length that are accepted
 
-or-false : (a b : Bool) → (a || b) ≡ false → (a ≡ false) × (b ≡ false)
-or-false true b p = let z : true ≡ false = p in (cc, cc)
-or-false false b p = (refl, p)
-
-pub fits : (f : File) → room f ≤ 16777216 → f .len ≤ room f → unfit f ≡ false
-unfolding unfit
-fits f h l = rw (le-ltb 16777216 (room f) h, le-ltb (room f) (f .len) l)
-
-pub fit-room : (f : File) → unfit f ≡ false → room f ≤ 16777216
-unfolding unfit
-fit-room f h = ltb-false 16777216 (room f) (or-false (ltb 16777216 (room f)) (ltb (room f) (f .len)) h .0)
-
-pub fit-len : (f : File) → unfit f ≡ false → f .len ≤ room f
-unfolding unfit
-fit-len f h = ltb-false (room f) (f .len) (or-false (ltb 16777216 (room f)) (ltb (room f) (f .len)) h .1)
-
-pub unfit-big : (f : File) → 16777216 < room f → unfit f ≡ true
-unfolding unfit
-unfit-big f h = rw (lt-ltb 16777216 (room f) h)
-
-pub unfit-len : (f : File) → room f ≤ 16777216 → unfit f ≡ ltb (room f) (f .len)
-unfolding unfit
-unfit-len f h = rw (le-ltb 16777216 (room f) h)
+pub fits : (f : File) → room f ≤ 16777216 → f .len ≤ room f → unfit 16777216 (room f) (f .len) ≡ false
+fits f h l = sym (unfit-len 16777216 (room f) (f .len) h) ∙ le-ltb (room f) (f .len) l
 
 -- ---- page 0 is whole and has the magic
 
@@ -80,26 +60,26 @@ version-other v p q = rw (ne-eqb v 0 p, ne-eqb v 2 q)
 -- ---- the ways out of the format check and of reading
 
 module _ (P : ℕ) (f : File) where
-  pub format-unfit : unfit f ≡ true → formatNo P f ≡ 1
+  pub format-unfit : unfit 16777216 (room f) (f .len) ≡ true → formatNo P f ≡ 1
   unfolding formatNo
   format-unfit h = rw h
 
-  pub format-none : unfit f ≡ false → hasMeta P (content f) ≡ false → formatNo P f ≡ 0
+  pub format-none : unfit 16777216 (room f) (f .len) ≡ false → hasMeta P (content f) ≡ false → formatNo P f ≡ 0
   unfolding formatNo
   format-none h m = rw (h, m)
 
-  pub format-good : unfit f ≡ false → hasMeta P (content f) ≡ true → goodVersion (version (content f)) ≡ true → formatNo P f ≡ 0
+  pub format-good : unfit 16777216 (room f) (f .len) ≡ false → hasMeta P (content f) ≡ true → goodVersion (version (content f)) ≡ true → formatNo P f ≡ 0
   unfolding formatNo
   format-good h m g = rw (h, m, g)
 
-  pub format-bad : unfit f ≡ false → hasMeta P (content f) ≡ true → goodVersion (version (content f)) ≡ false → formatNo P f ≡ 12
+  pub format-bad : unfit 16777216 (room f) (f .len) ≡ false → hasMeta P (content f) ≡ true → goodVersion (version (content f)) ≡ false → formatNo P f ≡ 12
   unfolding formatNo
   format-bad h m g = rw (h, m, g)
 
   -- no other number is given
   pub format-cases : (formatNo P f ≡ 0) ⊎ ((formatNo P f ≡ 1) ⊎ (formatNo P f ≡ 12))
   unfolding formatNo
-  format-cases = go (unfit f) (hasMeta P (content f)) (goodVersion (version (content f)))
+  format-cases = go (unfit 16777216 (room f) (f .len)) (hasMeta P (content f)) (goodVersion (version (content f)))
     where
       number : Bool → Bool → Bool → ℕ
       number u m g = cond u 1 (cond m (cond g 0 12) 0)
@@ -110,15 +90,15 @@ module _ (P : ℕ) (f : File) where
       go false true false = inr (inr refl)
       go false false g = inl refl
 
-  pub read-unfit : unfit f ≡ true → metaIn P f ≡ outside
+  pub read-unfit : unfit 16777216 (room f) (f .len) ≡ true → metaIn P f ≡ outside
   unfolding metaIn
   read-unfit h = rw h
 
-  pub read-none : unfit f ≡ false → hasMeta P (content f) ≡ false → metaIn P f ≡ nothing
+  pub read-none : unfit 16777216 (room f) (f .len) ≡ false → hasMeta P (content f) ≡ false → metaIn P f ≡ nothing
   unfolding metaIn
   read-none h m = rw (h, m)
 
-  pub read-some : unfit f ≡ false → hasMeta P (content f) ≡ true → metaIn P f ≡ counted (storedNext (content f)) (storedTime (content f)) (storedMark (content f))
+  pub read-some : unfit 16777216 (room f) (f .len) ≡ false → hasMeta P (content f) ≡ true → metaIn P f ≡ counted (storedNext (content f)) (storedTime (content f)) (storedMark (content f))
   unfolding metaIn
   read-some h m = rw (h, m)
 
@@ -230,7 +210,7 @@ module _ (P : ℕ) (big : 36 ≤ P) where
     page-version = rw (page-is, at32, take-at (bytesOf 4 2) (replicate (P - 36) 0) 4 (length-bytesOf 4 2)) (leOf-bytesOf 4 2 (lit< tt))
 
     -- a database whose first page it is
-    module _ (f : File) (fit : unfit f ≡ false) (stands : take P (content f) ≡ metaPage P next time mark) where
+    module _ (f : File) (fit : unfit 16777216 (room f) (f .len) ≡ false) (stands : take P (content f) ≡ metaPage P next time mark) where
       pub wrote-meta : hasMeta P (content f) ≡ true
       wrote-meta = sym (meta-front (content f)) ∙ rw stands page-meta
 

@@ -4,8 +4,8 @@ use mathlib.Core.List.{List, [], _∷_, _++_}
 use Prim.Native.Nat.{ℕ}
 use lib.ListN.{length, replicate}
 use Rattle.fields.specs.Bytes.{leOf, bytesOf, starts}
-use Rattle.fields.specs.Files.{File, fileOf}
-use Rattle.meta.specs.Page.{metaMagic, metaPage, unfit, hasMeta, field, goodVersion, formatNo, counted, nothing, outside, metaIn}
+use Rattle.fields.specs.Files.{File, fileOf, unfit}
+use Rattle.meta.specs.Page.{metaMagic, metaPage, hasMeta, field, goodVersion, formatNo, counted, nothing, outside, metaIn}
 
 -- a page 0 with next id 7, next commit time 9, mark 3 and this version, and n bytes after it
 database : List ℕ → ℕ → ℕ → File

@@ -14,9 +14,9 @@ use Prim.Native.Nat.{ℕ, _-_}
 use mathlib.Core.List.{List, [], _∷_, _++_}
 use mathlib.Core.Bool.{Bool, cond, _&&_, _||_}
 use lib.ListN.{length, take, drop, replicate}
-use lib.Dec.{ltb, leb, eqb}
+use lib.Dec.{leb, eqb}
 use Rattle.fields.specs.Bytes.{leOf, bytesOf, starts}
-use Rattle.fields.specs.Files.{File, content, room}
+use Rattle.fields.specs.Files.{File, content, room, unfit}
 use Rattle.fields.specs.Answers.{Told}
 use Rattle.meta.specs.declared.Stored.{Stored}
 use Rattle.meta.specs.declared.Stored.the-variants.{Meta, Nothing, Outside}
@@ -29,10 +29,6 @@ metaMagic = 65 ∷ 69 ∷ 82 ∷ 79 ∷ 68 ∷ 66 ∷ 77 ∷ 49 ∷ []
 unfoldable pub metaPage : ℕ → ℕ → ℕ → ℕ → List ℕ
 metaPage P next time mark =
     metaMagic ++ (bytesOf 8 next ++ (bytesOf 8 time ++ (bytesOf 8 mark ++ (bytesOf 4 2 ++ replicate (P - 36) 0))))
-
--- the buffer is over its limit, or the length over the buffer
-unfoldable pub unfit : File → Bool
-unfit f = ltb 16777216 (room f) || ltb (room f) (f .len)
 
 -- of what a database holds: its page 0 is whole and has the magic
 unfoldable pub hasMeta : ℕ → List ℕ → Bool
@@ -59,7 +55,7 @@ goodVersion v = eqb v 0 || eqb v 2
 
 -- the number of the format check
 unfoldable pub formatNo : ℕ → File → ℕ
-formatNo P f = cond (unfit f) 1 (cond (hasMeta P (content f)) (cond (goodVersion (version (content f))) 0 12) 0)
+formatNo P f = cond (unfit 16777216 (room f) (f .len)) 1 (cond (hasMeta P (content f)) (cond (goodVersion (version (content f))) 0 12) 0)
 
 -- ---- the counters of page 0
 
@@ -81,4 +77,4 @@ storedTold Outside = outside
 -- what reading page 0 tells
 unfoldable pub metaIn : ℕ → File → Told
 metaIn P f =
-    cond (unfit f) outside (cond (hasMeta P (content f)) (counted (storedNext (content f)) (storedTime (content f)) (storedMark (content f))) nothing)
+    cond (unfit 16777216 (room f) (f .len)) outside (cond (hasMeta P (content f)) (counted (storedNext (content f)) (storedTime (content f)) (storedMark (content f))) nothing)

@@ -6,7 +6,7 @@ use fields::numbers;
 ghost use mathlib.Core.Path.{_≡_};
 ghost use lib.Seq.{sets};
 ghost use Rattle.fields.specs.Files.{fileOf};
-ghost use Rattle.meta.specs.Page.{metaPage, unfit, hasMeta, formatNo, metaIn, storedTold};
+ghost use Rattle.meta.specs.Page.{metaPage, hasMeta, formatNo, metaIn, storedTold};
 
 // The version that is written.
 const VERSION: u32 = 2;
@@ -24,16 +24,6 @@ pub enum Stored {
     Outside,
 }
 
-// Whether the buffer is over its limit, or the length over the buffer.
-fn is_unfit(db: &[u8], len: usize) -> bool
-    ensures { λ r. ⌜ r ≡ unfit (fileOf (now (db .entry)) len) ⌝ }
-{
-    if numbers::BUFFER_LIMIT < db.len() {
-        return true;
-    }
-    db.len() < len
-}
-
 // Whether page 0 is whole and has the magic. No byte past the length is looked at.
 fn has_meta(s: &[u8]) -> bool
     ensures { λ r. ⌜ r ≡ hasMeta 4096 (now (s .entry)) ⌝ }
@@ -48,7 +38,7 @@ fn has_meta(s: &[u8]) -> bool
 pub fn format_no(db: &[u8], len: usize) -> u8
     ensures { λ r. ⌜ r ≡ formatNo 4096 (fileOf (now (db .entry)) len) ⌝ }
 {
-    if is_unfit(db, len) {
+    if fields::is_unfit(numbers::BUFFER_LIMIT, db.len(), len) {
         return numbers::UNFIT;
     }
     let s = &db[..len];
@@ -69,7 +59,7 @@ pub fn format_no(db: &[u8], len: usize) -> u8
 pub fn read_meta(db: &[u8], len: usize) -> Stored
     ensures { λ r. ⌜ storedTold r ≡ metaIn 4096 (fileOf (now (db .entry)) len) ⌝ }
 {
-    if is_unfit(db, len) {
+    if fields::is_unfit(numbers::BUFFER_LIMIT, db.len(), len) {
         return Stored::Outside;
     }
     let s = &db[..len];

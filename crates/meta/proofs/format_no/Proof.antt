@@ -6,7 +6,8 @@ use borrow.Author.Needs.{needs}
 use borrow.Author.Tests.{not-true, not-false}
 use lib.ListN.{length, length-take}
 use Rattle.meta.specs.Page.{field}
-use Rattle.meta.proofs.Laws.{fit-len, version-zero, version-two, version-other, format-unfit, format-none, format-good, format-bad}
+use Rattle.fields.proofs.FileLaws.{fit-means}
+use Rattle.meta.proofs.Laws.{version-zero, version-two, version-other, format-unfit, format-none, format-good, format-bad}
 use Rattle.meta.proofs.format_no.Statement.{statement}
 use Rattle.meta.proofs.format_no.Tie as tie
 
@@ -19,7 +20,7 @@ returns c = sym (format-unfit 4096 _ (sym (c .before .is-unfit .ensures) ∙ c .
 slice-aggregate-s : tie.Need-slice-aggregate-s
 slice-aggregate-s c =
     let a = c .before .before .before .before .args in
-    let h : a .len ≤ length (a .db .now) = fit-len _ (sym (c .before .before .is-unfit .ensures) ∙ c .before .if1 .left) in
+    let h : a .len ≤ length (a .db .now) = fit-means _ _ _ (sym (c .before .before .is-unfit .ensures) ∙ c .before .if1 .left) .1 in
     simp length-take (omega arith)
 
 has-meta-requires : tie.Need-has-meta-requires
