@@ -5,16 +5,16 @@ use mathlib.Core.List.{List, [], _∷_, _++_}
 use mathlib.Core.Bool.{Bool, true, false, cond, _&&_, _||_}
 use Prim.Native.Nat.{ℕ, zero, suc, _+_, _-_, _^_, _≤_, _<_}
 use native.Mathlib.Omega.{arith}
-use borrow.Author.Tests.{lt-ltb, le-ltb, le-leb, lt-leb, eq-eqb, ne-eqb, ltb-false, leb-true}
+use borrow.Author.Tests.{lt-ltb, le-ltb, le-leb, lt-leb, eq-eqb, ne-eqb, ltb-true, ltb-false, leb-true}
 use lib.Dec.{ltb, leb, eqb, lit<}
 use lib.ListN.{length, take, drop, getD, replicate, length-append, length-take, length-replicate}
 use lib.Seq.{sets, take-take, take-at, drop-at, drop-drop}
-use Rattle.fields.specs.Bytes.{leOf, bytesOf, starts}
+use Rattle.fields.specs.Bytes.{leOf, bytesOf, Bytes, starts}
 use Rattle.fields.specs.Files.{File, content, room, unfit}
 use Rattle.fields.proofs.FileLaws.{unfit-len}
 use Rattle.fields.specs.Answers.{Told}
 use Rattle.fields.proofs.Tests.{both, Order, less, most, order}
-use Rattle.fields.proofs.ByteLaws.{length-bytesOf, leOf-bytesOf}
+use Rattle.fields.proofs.ByteLaws.{length-bytesOf, bytesOf-bytes, leOf-bytesOf}
 use Rattle.fields.proofs.Stored.{laid-next, starts-append}
 use Rattle.meta.specs.declared.Stored.{Stored}
 use Rattle.meta.specs.declared.Stored.the-variants.{Meta, Nothing, Outside}
@@ -225,6 +225,41 @@ module _ (P : ℕ) (big : 36 ≤ P) where
           let t : storedTime (content f) ≡ time = sym (field-front 8 16 P (content f) (omega arith)) ∙ rw stands (page-time i) in
           let m : storedMark (content f) ≡ mark = sym (field-front 8 24 P (content f) (omega arith)) ∙ rw stands (page-mark j) in
           read-some P f fit wrote-meta ∙ rw (n, t, m)
+
+-- ---- the page is bytes
+
+small : List ℕ → Bool
+small [] = true
+small (x ∷ xs) = ltb x 256 && small xs
+
+small-bytes : (xs : List ℕ) → small xs ≡ true → Bytes xs
+unfolding small
+small-bytes [] h i = omega arith
+small-bytes (x ∷ xs) h zero = ltb-true x 256 (both (ltb x 256) (small xs) h .0)
+small-bytes (x ∷ xs) h (suc i) = small-bytes xs (both (ltb x 256) (small xs) h .1) i
+
+bytes-append : (xs ys : List ℕ) → Bytes xs → Bytes ys → Bytes (xs ++ ys)
+bytes-append [] ys a b i = b i
+bytes-append (x ∷ xs) ys a b zero = a 0
+bytes-append (x ∷ xs) ys a b (suc i) = bytes-append xs ys (λ j. a (suc j)) b i
+
+zeros-small : (n : ℕ) → small (replicate n 0) ≡ true
+unfolding small
+zeros-small zero = refl
+zeros-small (suc n) = zeros-small n
+
+magic-small : small metaMagic ≡ true
+unfolding small metaMagic
+magic-small = refl
+
+pub meta-bytes : (P next time mark : ℕ) → Bytes (metaPage P next time mark)
+unfolding metaPage
+meta-bytes P next time mark =
+    bytes-append metaMagic _ (small-bytes metaMagic magic-small)
+    (bytes-append (bytesOf 8 next) _ (bytesOf-bytes 8 next)
+    (bytes-append (bytesOf 8 time) _ (bytesOf-bytes 8 time)
+    (bytes-append (bytesOf 8 mark) _ (bytesOf-bytes 8 mark)
+    (bytes-append (bytesOf 4 2) (replicate (P - 36) 0) (bytesOf-bytes 4 2) (small-bytes (replicate (P - 36) 0) (zeros-small (P - 36)))))))
 
 -- ---- the page is written field by field
 
