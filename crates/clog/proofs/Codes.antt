@@ -49,11 +49,11 @@ length-entry id c = go (eqb c 0)
     go true = refl
     go false = refl
 
-pub entries-turn : (t k : ℕ) (cs : List ℕ) → k < length cs → entriesFrom (t + k) (drop k cs) ≡ entryOf (t + k) (getD cs k 0) ++ entriesFrom (t + (k + 1)) (drop (k + 1) cs)
+entries-turn : (t k : ℕ) (cs : List ℕ) → k < length cs → entriesFrom (t + k) (drop k cs) ≡ entryOf (t + k) (getD cs k 0) ++ entriesFrom (t + (k + 1)) (drop (k + 1) cs)
 unfolding entriesFrom
 entries-turn t k cs h = let e : t + (k + 1) ≡ t + k + 1 = omega arith in rw (drop-cons cs k 0 h, e, add-one k)
 
-pub entries-done : (t k : ℕ) (cs : List ℕ) → length cs ≤ k → entriesFrom t (drop k cs) ≡ []
+entries-done : (t k : ℕ) (cs : List ℕ) → length cs ≤ k → entriesFrom t (drop k cs) ≡ []
 unfolding entriesFrom
 entries-done t k cs h = rw (drop-of-length-le cs h)
 
@@ -101,10 +101,6 @@ module _ (h : ℕ) (s : List ℕ) (k : ℕ) where
       let m : length (codes (drop h s)) ≡ 4 * length (drop h s) = length-codes (drop h s) in
       let r : k < length (codes (drop h s)) = omega arith in
       entries-turn t k (codes (drop h s)) r ∙ ap (λ (x : ℕ). entryOf (t + k) x ++ entriesFrom (t + (k + 1)) (drop (k + 1) (codes (drop h s)))) (codes-slot h s k ∙ sym e)
-
-  pub count-turn : (t c r : ℕ) → k < 4 * (length s - h) → c ≡ slotOf h s k → r ≡ cond (eqb c 0) 0 1
-      → length (entriesFrom (t + k) (drop k (codes (drop h s)))) ≡ r + length (entriesFrom (t + (k + 1)) (drop (k + 1) (codes (drop h s))))
-  count-turn t c r l e g = rw (slots-turn t c l e, length-append, length-entry, g)
 
   pub slots-done : (t : ℕ) → 4 * (length s - h) ≤ k → entriesFrom t (drop k (codes (drop h s))) ≡ []
   slots-done t l =

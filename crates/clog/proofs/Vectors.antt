@@ -1,101 +1,151 @@
--- Document 01's values to check that concern the clog (marked P), and each refusal once, computed. A clog stands in a buffer of 12 bytes whose
--- bytes past the length are no zeros. Assumes nothing.
+-- Document 01's values to check that concern the clog (marked P there), and each refusal, computed: one list of named cases, each with what a
+-- call gives and what it has to give. A clog stands in a buffer of 12 bytes, and those past its length are not zeros. Assumes nothing.
 use mathlib.Core.Path.{_≡_, refl}
-use mathlib.Core.List.{List, [], _∷_, _++_}
+use mathlib.Core.List.{List, [], _∷_, _++_, map}
 use Prim.Native.Nat.{ℕ}
 use lib.ListN.{replicate}
 use Rattle.fields.specs.Bytes.{starts}
-use Rattle.fields.specs.Files.{File, fileOf, lay, header}
+use Rattle.fields.specs.Files.{fileOf, lay, header}
 use Rattle.fields.specs.Answers.{Outcome, outcome, decided}
 use Rattle.fields.specs.declared.Answer.the-variants.{Accepted, Refused}
-use Rattle.table.specs.declared.Status.the-variants.{Committed, Aborted}
+use Rattle.table.specs.declared.Status.{Status}
+use Rattle.table.specs.declared.Status.the-variants.{Active, Committed, Aborted}
+use Rattle.table.specs.declared.Entry.{Entry}
 use Rattle.table.specs.Entries.{emptyTable, laid}
-use Rattle.clog.specs.Slots.{clogMagic, bitsOf, withBits, highBits, validClog, openClog, setSlot, cleared, clearSlots, codes, loadedStatus, entryOf, entriesFrom, entriesIn, inUse, settledCode, settledByte, settled}
-use Rattle.clog.specs.Calls.{unfit, resetNo, recordNo, compactNo, loadNo, opened, wiped, recorded, compacted, LoadOutcome, loadOutcome, tableBy, loadDecided, loaded}
+use Rattle.clog.specs.Slots.{clogMagic, codeOf, bitsOf, withBits, highBits, validClog, openClog, setSlot, cleared, clearSlots, spanBelow, codes, loadedStatus, entryOf, entriesFrom, entriesIn, inUse, settledCode, settledByte, settled}
+use Rattle.clog.specs.Calls.{unfit, resetNo, recordNo, compactNo, loadNo, opened, wiped, recorded, compacted, LoadOutcome, tableBy, loadDecided, loaded}
 
-pub data Told : Type 0 where
-  call : Outcome → Told
-  load : LoadOutcome → Told
+pub data Result : Type 0 where
+  call : Outcome → Result
+  load : LoadOutcome → Result
+  size : ℕ → Result
+
+pub record Case : Type 0 where
+  pub gives : Result
+  pub wants : Result
 
 -- the header and four bytes
-abbrev pub buffer : ℕ → ℕ → ℕ → ℕ → List ℕ
+abbrev buffer : ℕ → ℕ → ℕ → ℕ → List ℕ
 buffer a b c d = clogMagic ++ (a ∷ b ∷ c ∷ d ∷ [])
 
--- a case is what a call gives
-abbrev pub record-5-committed : Told
-record-5-committed = call (recorded 8 0 (fileOf (buffer 238 239 238 239) 8) 5 2)
+abbrev accepts : Outcome → ℕ → List ℕ → Case
+accepts o len bytes = record { gives = call o; wants = call (outcome (Accepted len) bytes) }
 
-abbrev pub record-7-aborted : Told
-record-7-aborted = call (recorded 8 0 (fileOf (buffer 0 0x08 238 239) 10) 7 3)
+abbrev refuses : Outcome → ℕ → List ℕ → Case
+refuses o n bytes = record { gives = call o; wants = call (outcome (Refused n) bytes) }
 
-abbrev pub compact-below : ℕ → Told
-compact-below w = call (compacted 8 0 (fileOf (buffer 0 0xC8 238 239) 10) w)
+abbrev entry : ℕ → Status → Entry
+entry k s = record { id = record { 0 = k }; status = s }
 
-abbrev pub load-39 : Told
-load-39 = load (loaded 256 8 0 (fileOf (buffer 0x39 238 239 238) 9))
+abbrev committed : Status
+committed = Committed (record { 0 = 0 })
 
-pub values :
-    record-5-committed ∷ record-7-aborted ∷ compact-below 6 ∷ compact-below 7 ∷ compact-below 8 ∷ load-39 ∷ []
-    ≡ call (outcome (Accepted 10) (buffer 0 0x08 238 239))
-    ∷ call (outcome (Accepted 10) (buffer 0 0xC8 238 239))
-    ∷ call (outcome (Accepted 10) (buffer 0 0xC0 238 239))
-    ∷ call (outcome (Accepted 10) (buffer 0 0xC0 238 239))
-    ∷ call (outcome (Accepted 10) (buffer 0 0x00 238 239))
-    ∷ load (
-    loadOutcome (
+-- ---- the values of document 01
+
+-- on a clog of 8 bytes 00 08 is appended
+abbrev record-5-committed : Case
+record-5-committed = accepts (recorded 8 0 (fileOf (buffer 238 239 238 239) 8) 5 (codeOf committed)) 10 (buffer 0x00 0x08 238 239)
+
+abbrev then-7-aborted : Case
+then-7-aborted = accepts (recorded 8 0 (fileOf (buffer 0x00 0x08 238 239) 10) 7 (codeOf Aborted)) 10 (buffer 0x00 0xC8 238 239)
+
+abbrev compact-6 : Case
+compact-6 = accepts (compacted 8 0 (fileOf (buffer 0x00 0xC8 238 239) 10) 6) 10 (buffer 0x00 0xC0 238 239)
+
+abbrev compact-7 : Case
+compact-7 = accepts (compacted 8 0 (fileOf (buffer 0x00 0xC8 238 239) 10) 7) 10 (buffer 0x00 0xC0 238 239)
+
+abbrev compact-8 : Case
+compact-8 = accepts (compacted 8 0 (fileOf (buffer 0x00 0xC8 238 239) 10) 8) 10 (buffer 0x00 0x00 238 239)
+
+-- 0 Aborted, 1 Committed, 2 Aborted
+abbrev load-39 : Case
+load-39 =
     record {
-      answer = Accepted 9;
-      table = laid (emptyTable 256) (
-          record { id = record { 0 = 0 }; status = Aborted }
-          ∷ record { id = record { 0 = 1 }; status = Committed (record { 0 = 0 }) }
-          ∷ record { id = record { 0 = 2 }; status = Aborted }
-          ∷ []);
-    }) (buffer 0x3B 238 239 238))
-    ∷ []
-unfolding clogMagic lay decided bitsOf withBits highBits setSlot cleared clearSlots codes loadedStatus entryOf entriesFrom entriesIn inUse settledCode settledByte settled unfit recordNo compactNo loadNo recorded compacted tableBy loadDecided loaded
-values = refl
+      gives = load (loaded 256 8 0 (fileOf (buffer 0x39 238 239 238) 9));
+      wants = load (record {
+        told = outcome (Accepted 9) [] .told;
+        table = laid (emptyTable 256) (entry 0 Aborted ∷ entry 1 committed ∷ entry 2 Aborted ∷ []);
+        bytes = buffer 0x3B 238 239 238;
+      });
+    }
 
--- a right header is kept; 7 bytes, and another magic, are reset; a buffer of 7 bytes is 6; a length over its buffer is 1, before 6
-abbrev pub other-magic : File
-other-magic = fileOf (0 ∷ clogMagic ++ (238 ∷ 239 ∷ 238 ∷ [])) 12
+-- ---- open and reset
 
-pub openings :
-    opened (fileOf (buffer 7 238 239 238) 9)
-    ∷ opened (fileOf (buffer 7 238 239 238) 7)
-    ∷ opened other-magic
-    ∷ opened (fileOf (replicate 7 0) 7)
-    ∷ opened (fileOf (replicate 7 0) 8)
-    ∷ wiped (fileOf (buffer 7 238 239 238) 9)
-    ∷ wiped (fileOf (replicate 7 0) 0)
-    ∷ []
-    ≡ outcome (Accepted 9) (buffer 7 238 239 238)
-    ∷ outcome (Accepted 8) (buffer 7 238 239 238)
-    ∷ outcome (Accepted 8) (buffer 49 238 239 238)
-    ∷ outcome (Refused 6) (replicate 7 0)
-    ∷ outcome (Refused 1) (replicate 7 0)
-    ∷ outcome (Accepted 8) (buffer 7 238 239 238)
-    ∷ outcome (Refused 6) (replicate 7 0)
-    ∷ []
-unfolding clogMagic starts header decided validClog openClog unfit resetNo opened wiped
-openings = refl
+abbrev open-right : Case
+open-right = accepts (opened (fileOf (buffer 7 238 239 238) 9)) 9 (buffer 7 238 239 238)
 
--- id 16 has no byte in a buffer of 12; a length under 8 is 1; w may be the 64-bit maximum; a table of 2 places cannot take 3 entries, one of 3 can
-pub limits :
-    call (recorded 8 0 (fileOf (buffer 0 0 0 0) 8) 15 1)
-    ∷ call (recorded 8 0 (fileOf (buffer 0 0 0 0) 8) 16 1)
-    ∷ call (recorded 8 0 (fileOf (buffer 0 0 0 0) 7) 0 1)
-    ∷ call (compacted 8 0 (fileOf (buffer 255 255 238 239) 10) 0xFFFF_FFFF_FFFF_FFFF)
-    ∷ call (compacted 8 0 (fileOf (buffer 255 255 238 239) 13) 1)
-    ∷ load (loaded 2 8 0 (fileOf (buffer 0x39 238 239 238) 9))
-    ∷ load (loaded 2 8 0 (fileOf (buffer 0x39 238 239 238) 7))
-    ∷ []
-    ≡ call (outcome (Accepted 12) (buffer 0 0 0 0x40))
-    ∷ call (outcome (Refused 6) (buffer 0 0 0 0))
-    ∷ call (outcome (Refused 1) (buffer 0 0 0 0))
-    ∷ call (outcome (Accepted 10) (buffer 0 0 238 239))
-    ∷ call (outcome (Refused 1) (buffer 255 255 238 239))
-    ∷ load (loadOutcome (record { answer = Refused 7; table = emptyTable 2 }) (buffer 0x39 238 239 238))
-    ∷ load (loadOutcome (record { answer = Refused 1; table = emptyTable 2 }) (buffer 0x39 238 239 238))
-    ∷ []
-unfolding clogMagic lay decided bitsOf withBits highBits setSlot cleared clearSlots codes loadedStatus entryOf entriesFrom entriesIn inUse settledCode settledByte settled unfit recordNo compactNo loadNo recorded compacted tableBy loadDecided loaded
-limits = refl
+abbrev open-7-bytes : Case
+open-7-bytes = accepts (opened (fileOf (buffer 7 238 239 238) 7)) 8 (buffer 7 238 239 238)
+
+abbrev open-other-magic : Case
+open-other-magic = accepts (opened (fileOf (0 ∷ clogMagic ++ (238 ∷ 239 ∷ 238 ∷ [])) 12)) 8 (buffer 49 238 239 238)
+
+abbrev open-small-buffer : Case
+open-small-buffer = refuses (opened (fileOf (replicate 7 0) 7)) 6 (replicate 7 0)
+
+-- 1 comes before 6
+abbrev open-long : Case
+open-long = refuses (opened (fileOf (replicate 7 0) 8)) 1 (replicate 7 0)
+
+abbrev reset-right : Case
+reset-right = accepts (wiped (fileOf (buffer 7 238 239 238) 9)) 8 (buffer 7 238 239 238)
+
+abbrev reset-small-buffer : Case
+reset-small-buffer = refuses (wiped (fileOf (replicate 7 0) 0)) 6 (replicate 7 0)
+
+-- ---- limits
+
+-- the last id of the buffer, and the first past it
+abbrev record-15 : Case
+record-15 = accepts (recorded 8 0 (fileOf (buffer 1 238 239 238) 9) 15 (codeOf Active)) 12 (buffer 1 0 0 0x40)
+
+abbrev record-16 : Case
+record-16 = refuses (recorded 8 0 (fileOf (buffer 1 238 239 238) 9) 16 (codeOf Active)) 6 (buffer 1 238 239 238)
+
+abbrev record-short : Case
+record-short = refuses (recorded 8 0 (fileOf (buffer 1 238 239 238) 7) 0 (codeOf Active)) 1 (buffer 1 238 239 238)
+
+abbrev compact-0 : Case
+compact-0 = accepts (compacted 8 0 (fileOf (buffer 255 255 238 239) 10) 0) 10 (buffer 255 255 238 239)
+
+abbrev compact-most : Case
+compact-most = accepts (compacted 8 0 (fileOf (buffer 255 255 238 239) 10) 0xFFFF_FFFF_FFFF_FFFF) 10 (buffer 0 0 238 239)
+
+abbrev compact-long : Case
+compact-long = refuses (compacted 8 0 (fileOf (buffer 255 255 238 239) 13) 1) 1 (buffer 255 255 238 239)
+
+-- three entries do not fit two places
+abbrev load-full : Case
+load-full =
+    record {
+      gives = load (loaded 2 8 0 (fileOf (buffer 0x39 238 239 238) 9));
+      wants = load (record { told = outcome (Refused 7) [] .told; table = emptyTable 2; bytes = buffer 0x39 238 239 238 });
+    }
+
+abbrev load-short : Case
+load-short =
+    record {
+      gives = load (loaded 256 8 0 (fileOf (buffer 0x39 238 239 238) 7));
+      wants = load (record { told = outcome (Refused 1) [] .told; table = emptyTable 256; bytes = buffer 0x39 238 239 238 });
+    }
+
+-- a header of 13 bytes and ids from 100 on
+abbrev based : Case
+based = accepts (recorded 13 100 (fileOf (replicate 15 238) 13) 105 (codeOf Aborted)) 15 (replicate 13 238 ++ (0 ∷ 0x0C ∷ []))
+
+abbrev span-6 : Case
+span-6 = record { gives = size (spanBelow 4 6); wants = size 2 }
+
+abbrev span-most : Case
+span-most = record { gives = size (spanBelow 4 0xFFFF_FFFF_FFFF_FFFF); wants = size 4 }
+
+abbrev cases : List Case
+cases =
+    record-5-committed ∷ then-7-aborted ∷ compact-6 ∷ compact-7 ∷ compact-8 ∷ load-39
+    ∷ open-right ∷ open-7-bytes ∷ open-other-magic ∷ open-small-buffer ∷ open-long ∷ reset-right ∷ reset-small-buffer
+    ∷ record-15 ∷ record-16 ∷ record-short ∷ compact-0 ∷ compact-most ∷ compact-long ∷ load-full ∷ load-short ∷ based ∷ span-6 ∷ span-most ∷ []
+
+pub vectors : map (λ (c : Case). c .gives) cases ≡ map (λ (c : Case). c .wants) cases
+unfolding clogMagic starts lay header decided bitsOf withBits highBits validClog openClog setSlot cleared clearSlots spanBelow codes loadedStatus entryOf entriesFrom entriesIn inUse settledCode settledByte settled unfit resetNo recordNo compactNo loadNo opened wiped recorded compacted tableBy loadDecided loaded
+vectors = refl

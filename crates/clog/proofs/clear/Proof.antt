@@ -1,4 +1,5 @@
--- `clog::clear` meets its contract. The loop's invariant: clearing what is left, from the place and the w that are left, gives what was asked for. The measure is how many bytes are left. Assumes nothing.
+-- `clog::clear` meets its contract. The loop's invariant: clearing what is left, from the place and the w that are left, gives what was asked for.
+-- The measure is how many bytes are left. Assumes nothing.
 use mathlib.Core.Path.{_≡_, refl, sym, _∙_}
 use Prim.Native.Nat.{_-_, _*_, _≤_}
 use native.Mathlib.Omega.{arith}
@@ -11,7 +12,9 @@ use Rattle.clog.proofs.clear.Statement.{statement}
 use Rattle.clog.proofs.clear.Tie as tie
 
 abbrev Inv-loop : tie.InvT-loop
-Inv-loop clog₀ len h w end i₀ left₀ clog i left = (h ≤ i) × (i ≤ end) × (end ≤ len) × (length clog ≡ length clog₀) × (left ≡ w - 4 * (i - h)) × (sets clog i (cleared left (slice i len clog)) ≡ sets clog₀ h (cleared w (slice h len clog₀)))
+Inv-loop clog₀ len h w end i₀ left₀ clog i left =
+    (h ≤ i) × (i ≤ end) × (end ≤ len) × (length clog ≡ length clog₀) × (left ≡ w - 4 * (i - h))
+    × (sets clog i (cleared left (slice i len clog)) ≡ sets clog₀ h (cleared w (slice h len clog₀)))
 
 abbrev μ-loop : tie.MeasureT-loop
 μ-loop clog₀ len h w end i₀ left₀ clog i left = end - i

@@ -4,7 +4,8 @@ use mathlib.Core.Path.{_≡_, sym, _∙_}
 use native.Mathlib.Omega.{arith}
 use mathlib.Core.Logic.{⊎-elim}
 use Prim.Native.Nat.{_-_}
-use Rattle.clog.proofs.Ways.{compact-fits, compacted-no, compacted-done}
+use Rattle.clog.proofs.Refusals.{compact-fits}
+use Rattle.clog.proofs.Ways.{compacted-no, compacted-done}
 use Rattle.clog.proofs.compact_in.Statement.{statement}
 use Rattle.clog.proofs.compact_in.Tie as tie
 

@@ -1,4 +1,5 @@
--- `clog::count_in` meets its contract. The loop's invariant: the count and how many entries are left make how many there are. The measure is how many slots are left. Assumes nothing.
+-- `clog::count_in` meets its contract. The loop's invariant: the count and how many entries are left make how many there are.
+-- The measure is how many slots are left. Assumes nothing.
 use mathlib.Core.Path.{_≡_, ap}
 use Prim.Native.Nat.{_+_, _-_, _/_, _≤_}
 use native.Mathlib.Omega.{arith}

@@ -1,4 +1,5 @@
--- `clog::list_in` meets its contract. The loop's invariant: pushing the entries that are left gives what pushing all gives, and there is room for them. The measure is how many slots are left. Assumes nothing.
+-- `clog::list_in` meets its contract. The loop's invariant: pushing the entries that are left gives what pushing all gives,
+-- and there is room for them. The measure is how many slots are left. Assumes nothing.
 use mathlib.Core.Path.{_≡_}
 use Prim.Native.Nat.{_+_, _-_, _/_, _≤_}
 use native.Mathlib.Omega.{arith}
@@ -12,7 +13,9 @@ use Rattle.clog.proofs.list_in.Statement.{statement}
 use Rattle.clog.proofs.list_in.Tie as tie
 
 abbrev Inv-loop : tie.InvT-loop
-Inv-loop s h base end t₀ k₀ t k = (k ≤ end) × (length (t .entries) ≡ 256) × (t .count + length (entriesFrom (base + k) (drop k (codes (drop h s)))) ≤ 256) × (pushAll t (entriesFrom (base + k) (drop k (codes (drop h s)))) ≡ pushAll (emptyTable 256) (entriesFrom base (codes (drop h s))))
+Inv-loop s h base end t₀ k₀ t k =
+    (k ≤ end) × (length (t .entries) ≡ 256) × (t .count + length (entriesFrom (base + k) (drop k (codes (drop h s)))) ≤ 256)
+    × (pushAll t (entriesFrom (base + k) (drop k (codes (drop h s)))) ≡ pushAll (emptyTable 256) (entriesFrom base (codes (drop h s))))
 
 abbrev μ-loop : tie.MeasureT-loop
 μ-loop s h base end t₀ k₀ t k = end - k

@@ -4,7 +4,8 @@ use mathlib.Core.Path.{sym, _∙_}
 use native.Mathlib.Omega.{arith}
 use lib.ListN.{take}
 use lib.Seq.{length-take-le}
-use Rattle.clog.proofs.Ways.{load-fits, loaded-no, loaded-done}
+use Rattle.clog.proofs.Refusals.{load-fits}
+use Rattle.clog.proofs.Ways.{loaded-no, loaded-done}
 use Rattle.clog.proofs.Codes.{many}
 use Rattle.clog.proofs.load_in.Statement.{statement}
 use Rattle.clog.proofs.load_in.Tie as tie
@@ -60,7 +61,8 @@ returns-2 : tie.Need-returns-2
 returns-2 c =
     let e = c .before .before .before .before .before .before in
     let a = e .before .before .before .before .args in
-    loaded-done (a .clog .now) (a .len) _ 256 (a .h) (a .base) _ (e .before .load-no .ensures) (e .if1 .left) (c .before .before .before .before .list-in .ensures) _ (c .before .before .settle .ensures)
+    let s = c .before .before in
+    loaded-done (a .clog .now) (a .len) _ 256 (a .h) (a .base) _ (e .before .load-no .ensures) (e .if1 .left) (s .before .before .list-in .ensures) _ (s .settle .ensures)
 
 pub load-in-spec : {M : Type 1} → statement M
 load-in-spec =

@@ -7,7 +7,7 @@ use borrow.Author.Tests.{lt-ltb, le-ltb}
 use Rattle.clog.specs.Calls.{loadNo}
 use Rattle.clog.specs.Slots.{inUse}
 use lib.ListN.{take}
-use Rattle.clog.proofs.Ways.{fit-means}
+use Rattle.clog.proofs.Refusals.{fit-means}
 use Rattle.clog.proofs.load_no.Statement.{statement}
 use Rattle.clog.proofs.load_no.Tie as tie
 

@@ -2,7 +2,8 @@
 use borrow.Author.Needs.{needs}
 use mathlib.Core.Path.{sym, _∙_}
 use lib.Seq.{length-take-le}
-use Rattle.clog.proofs.Ways.{reset-fits, opened-no, opened-kept, opened-reset}
+use Rattle.clog.proofs.Refusals.{reset-fits}
+use Rattle.clog.proofs.Ways.{opened-no, opened-kept, opened-reset}
 use Rattle.clog.specs.Slots.{clogMagic, validClog}
 use Rattle.clog.proofs.open.Statement.{statement}
 use Rattle.clog.proofs.open.Tie as tie

@@ -5,7 +5,8 @@ use native.Mathlib.Omega.{arith}
 use lib.Seq.{length-take-le}
 use lib.ListN.{take}
 use Rattle.clog.specs.Calls.{seenOf}
-use Rattle.clog.proofs.Ways.{load-fits, loaded-no, loaded-seen}
+use Rattle.clog.proofs.Refusals.{load-fits}
+use Rattle.clog.proofs.Ways.{loaded-no, loaded-seen}
 use Rattle.clog.proofs.Codes.{many}
 use Rattle.clog.proofs.read.Statement.{statement}
 use Rattle.clog.proofs.read.Tie as tie

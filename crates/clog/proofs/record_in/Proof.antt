@@ -2,7 +2,8 @@
 use borrow.Author.Needs.{needs}
 use mathlib.Core.Path.{sym, _∙_}
 use native.Mathlib.Omega.{arith}
-use Rattle.clog.proofs.Ways.{record-fits, recorded-no, recorded-done}
+use Rattle.clog.proofs.Refusals.{record-fits}
+use Rattle.clog.proofs.Ways.{recorded-no, recorded-done}
 use Rattle.clog.proofs.record_in.Statement.{statement}
 use Rattle.clog.proofs.record_in.Tie as tie
 
@@ -68,7 +69,9 @@ returns-2 : tie.Need-returns-2
 returns-2 c =
     let e = c .before .before .before .before .before .before .before in
     let a = e .before .before .before .args in
-    recorded-done (a .clog .now) (a .len) _ (a .h) (a .base) (a .id) (a .code) _ _ _ (e .before .record-no .ensures) (e .if1 .left) (c .before .before .before .before .before .zero-fill .ensures) (c .before .with-bits .ensures) (c .larger .ensures)
+    let z = c .before .before .before .before .before .zero-fill in
+    let w = c .before .with-bits in
+    recorded-done (a .clog .now) (a .len) _ (a .h) (a .base) (a .id) (a .code) _ _ _ (e .before .record-no .ensures) (e .if1 .left) (z .ensures) (w .ensures) (c .larger .ensures)
 
 pub record-in-spec : {M : Type 1} → statement M
 record-in-spec =

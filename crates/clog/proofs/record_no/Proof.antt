@@ -5,7 +5,7 @@ use Prim.Native.Nat.{_+_, _-_, _/_}
 use native.Mathlib.Omega.{arith}
 use borrow.Author.Tests.{le-leb, lt-leb}
 use Rattle.clog.specs.Calls.{recordNo}
-use Rattle.clog.proofs.Ways.{fit-means}
+use Rattle.clog.proofs.Refusals.{fit-means}
 use Rattle.clog.proofs.record_no.Statement.{statement}
 use Rattle.clog.proofs.record_no.Tie as tie
 

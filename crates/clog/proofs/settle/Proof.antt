@@ -12,7 +12,8 @@ use Rattle.clog.proofs.settle.Statement.{statement}
 use Rattle.clog.proofs.settle.Tie as tie
 
 abbrev Inv-loop : tie.InvT-loop
-Inv-loop clog₀ len h i₀ clog i = (length clog ≡ length clog₀) × (sets clog i (map settledByte (slice i len clog)) ≡ sets clog₀ h (map settledByte (slice h len clog₀)))
+Inv-loop clog₀ len h i₀ clog i =
+    (length clog ≡ length clog₀) × (sets clog i (map settledByte (slice i len clog)) ≡ sets clog₀ h (map settledByte (slice h len clog₀)))
 
 abbrev μ-loop : tie.MeasureT-loop
 μ-loop clog₀ len h i₀ clog i = len - i
