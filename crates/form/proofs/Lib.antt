@@ -1,0 +1,4 @@
+pub mod Arrays
+pub mod Front
+pub mod Called
+pub mod Worlds
