@@ -1,5 +1,5 @@
--- Document 01's values to check that concern the clog (marked P there), and each refusal, computed: one list of named cases, each with what a
--- call gives and what it has to give. A clog stands in a buffer of 12 bytes, and those past its length are not zeros. Assumes nothing.
+-- Worked clogs, each refusal among them, computed: one list of named cases, each with what a call gives and what it has to give. Document 01's own
+-- values stand in world's list. A clog stands in a buffer of 12 bytes, and those past its length are not zeros. Assumes nothing.
 use mathlib.Core.Path.{_≡_, refl}
 use mathlib.Core.List.{List, [], _∷_, _++_, map}
 use Prim.Native.Nat.{ℕ}
@@ -8,9 +8,7 @@ use Rattle.fields.specs.Bytes.{starts}
 use Rattle.fields.specs.Files.{fileOf, lay, header}
 use Rattle.fields.specs.Answers.{Outcome, outcome, decided}
 use Rattle.fields.specs.declared.Answer.the-variants.{Accepted, Refused}
-use Rattle.table.specs.declared.Status.{Status}
-use Rattle.table.specs.declared.Status.the-variants.{Active, Committed, Aborted}
-use Rattle.table.specs.declared.Entry.{Entry}
+use Rattle.table.specs.declared.Status.the-variants.{Active, Aborted}
 use Rattle.table.specs.Entries.{emptyTable, laid}
 use Rattle.clog.specs.Slots.{clogMagic, codeOf, bitsOf, withBits, highBits, validClog, openClog, setSlot, cleared, clearSlots, spanBelow, codes, loadedStatus, entryOf, entriesFrom, entriesIn, inUse, settledCode, settledByte, settled}
 use Rattle.clog.specs.Calls.{unfit, resetNo, recordNo, compactNo, loadNo, opened, wiped, recorded, compacted, LoadOutcome, tableBy, loadDecided, loaded}
@@ -33,42 +31,6 @@ accepts o len bytes = record { gives = call o; wants = call (outcome (Accepted l
 
 abbrev refuses : Outcome → ℕ → List ℕ → Case
 refuses o n bytes = record { gives = call o; wants = call (outcome (Refused n) bytes) }
-
-abbrev entry : ℕ → Status → Entry
-entry k s = record { id = record { 0 = k }; status = s }
-
-abbrev committed : Status
-committed = Committed (record { 0 = 0 })
-
--- ---- the values of document 01
-
--- on a clog of 8 bytes 00 08 is appended
-abbrev record-5-committed : Case
-record-5-committed = accepts (recorded 8 0 (fileOf (buffer 238 239 238 239) 8) 5 (codeOf committed)) 10 (buffer 0x00 0x08 238 239)
-
-abbrev then-7-aborted : Case
-then-7-aborted = accepts (recorded 8 0 (fileOf (buffer 0x00 0x08 238 239) 10) 7 (codeOf Aborted)) 10 (buffer 0x00 0xC8 238 239)
-
-abbrev compact-6 : Case
-compact-6 = accepts (compacted 8 0 (fileOf (buffer 0x00 0xC8 238 239) 10) 6) 10 (buffer 0x00 0xC0 238 239)
-
-abbrev compact-7 : Case
-compact-7 = accepts (compacted 8 0 (fileOf (buffer 0x00 0xC8 238 239) 10) 7) 10 (buffer 0x00 0xC0 238 239)
-
-abbrev compact-8 : Case
-compact-8 = accepts (compacted 8 0 (fileOf (buffer 0x00 0xC8 238 239) 10) 8) 10 (buffer 0x00 0x00 238 239)
-
--- 0 Aborted, 1 Committed, 2 Aborted
-abbrev load-39 : Case
-load-39 =
-    record {
-      gives = load (loaded 256 8 0 (fileOf (buffer 0x39 238 239 238) 9));
-      wants = load (record {
-        told = outcome (Accepted 9) [] .told;
-        table = laid (emptyTable 256) (entry 0 Aborted ∷ entry 1 committed ∷ entry 2 Aborted ∷ []);
-        bytes = buffer 0x3B 238 239 238;
-      });
-    }
 
 -- ---- open and reset
 
@@ -142,8 +104,7 @@ span-most = record { gives = size (spanBelow 4 0xFFFF_FFFF_FFFF_FFFF); wants = s
 
 abbrev cases : List Case
 cases =
-    record-5-committed ∷ then-7-aborted ∷ compact-6 ∷ compact-7 ∷ compact-8 ∷ load-39
-    ∷ open-right ∷ open-7-bytes ∷ open-other-magic ∷ open-small-buffer ∷ open-long ∷ reset-right ∷ reset-small-buffer
+    open-right ∷ open-7-bytes ∷ open-other-magic ∷ open-small-buffer ∷ open-long ∷ reset-right ∷ reset-small-buffer
     ∷ record-15 ∷ record-16 ∷ record-short ∷ compact-0 ∷ compact-most ∷ compact-long ∷ load-full ∷ load-short ∷ based ∷ span-6 ∷ span-most ∷ []
 
 pub vectors : map (λ (c : Case). c .gives) cases ≡ map (λ (c : Case). c .wants) cases

@@ -60,26 +60,33 @@ startIn f = startOf (content f)
 
 -- ---- the page bytes of an image, as a part of the log
 
+-- of a record: its page bytes, and where they stand, past the tag and the page number; none, and 0, of a record that is no image
+abbrev pub pageIn : Record → List ℕ
+pageIn (image page bytes) = bytes
+pageIn (begin id) = []
+pageIn (commit id time) = []
+pageIn (abort id) = []
+pageIn checkpoint = []
+
+abbrev pub placeBy : ℕ → Record → ℕ
+placeBy at (image page bytes) = at + 5
+placeBy at (begin id) = 0
+placeBy at (commit id time) = 0
+placeBy at (abort id) = 0
+placeBy at checkpoint = 0
+
+-- of what stands at a place
 abbrev pub pageOf : Front → List ℕ
 pageOf ended = []
 pageOf (torn missing) = []
 pageOf unknown = []
-pageOf (one (image page bytes) n) = bytes
-pageOf (one (begin id) n) = []
-pageOf (one (commit id time) n) = []
-pageOf (one (abort id) n) = []
-pageOf (one checkpoint n) = []
+pageOf (one r n) = pageIn r
 
--- past the tag and the page number; 0 where no whole image stands
 abbrev pub placeOf : ℕ → Front → ℕ
 placeOf at ended = 0
 placeOf at (torn missing) = 0
 placeOf at unknown = 0
-placeOf at (one (image page bytes) n) = at + 5
-placeOf at (one (begin id) n) = 0
-placeOf at (one (commit id time) n) = 0
-placeOf at (one (abort id) n) = 0
-placeOf at (one checkpoint n) = 0
+placeOf at (one r n) = placeBy at r
 
 unfoldable pub imageIn : ℕ → File → ℕ → List ℕ
 imageIn P f at = cond (outside f at) [] (pageOf (decode P (drop at (content f))))
