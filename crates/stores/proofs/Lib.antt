@@ -1,0 +1,4 @@
+-- The laws of the crate's definitions.
+pub mod PlanLaws
+pub mod StepLaws
+pub mod RoomLaws
