@@ -1,28 +1,26 @@
 -- Laws of a store's arrays: the first count of an array, the tests of table, touched pages and frames said of it, and lists laid where they stood. Assumes nothing.
-use Prim.Native.Nat.{ℕ, zero, suc, _+_, _-_, _≤_, _<_}
+use Prim.Native.Nat.{ℕ, zero, suc, _-_, _≤_}
 use native.Mathlib.Omega.{arith}
-use mathlib.Core.Path.{_≡_, refl, sym, ap, _∙_}
-use mathlib.Core.List.{List, [], _∷_, _++_, append-nil}
+use mathlib.Core.Path.{_≡_, refl, _∙_}
+use mathlib.Core.List.{List, [], _∷_, append-nil}
 use mathlib.Core.Bool.{Bool, true, false, not, _&&_, _||_}
 use lib.ListN.{length, take, drop, getD, length-append, length-take, length-replicate}
-use lib.Seq.{length-take-le, take-at}
+use lib.Seq.{take-at}
 use lib.Dec.{ltb, leb}
-use borrow.Author.Tests.{lt-ltb, le-ltb, ltb-false, not-false}
+use borrow.Author.Tests.{lt-ltb, le-ltb, le-leb, lt-leb}
 use Rattle.fields.proofs.Tests.{Order, less, most, order}
 use Rattle.sorted.specs.Sorted.{laidOn}
 use Rattle.sorted.proofs.Laws.{laid-own}
-use Rattle.table.specs.declared.Entry.{Entry}
 use Rattle.table.specs.declared.Table.{Table}
-use Rattle.table.specs.Entries.{blank, listOf, laid, ascending, wellFormed}
+use Rattle.table.specs.Entries.{blank, listOf, ascending, wellFormed}
 use Rattle.frames.specs.declared.Frames.{Frames}
 use Rattle.frames.specs.declared.Touched.{Touched}
 use Rattle.frames.specs.Pages as pages
-use Rattle.frames.specs.Pages.{distinct, anyBad, laidFrames, laidTouched, frameCount, framesFormed, touchedFormed}
+use Rattle.frames.specs.Pages.{distinct, anyBad, frameCount, framesFormed, touchedFormed}
 use Rattle.frames.proofs.Values.{frames-over, frames-fit, touched-over, touched-fit}
 use Rattle.world.specs.Refusals.{anyOf, badTable, badTouched, badFrames}
 use Rattle.form.specs.declared.Store.{Store}
 use Rattle.form.specs.Store.{firstOf, entriesOf, residentOf, touchedOf}
-use borrow.Author.Tests.{le-leb, lt-leb}
 
 -- ---- tests
 

@@ -1,27 +1,24 @@
 -- Laws of the tests that every call makes first: 1 and 14 in the code's terms, and what a store that passes them is known to be. Assumes nothing.
-use Prim.Native.Nat.{ℕ, zero, suc, _+_, _-_, _≤_, _<_}
+use Prim.Native.Nat.{ℕ, _≤_}
 use native.Mathlib.Omega.{arith}
-use mathlib.Core.Path.{_≡_, refl, sym, ap, _∙_}
-use mathlib.Core.List.{List, [], _∷_, _++_}
-use mathlib.Core.Bool.{Bool, true, false, cond, not, _&&_, _||_}
-use lib.ListN.{length, take}
+use mathlib.Core.Path.{_≡_, refl}
+use mathlib.Core.List.{List}
+use mathlib.Core.Bool.{true, false, cond, not, _||_}
+use lib.ListN.{length}
 use lib.Dec.{ltb}
 use borrow.Author.Tests.{ltb-false, not-false}
-use Rattle.fields.specs.Files.{unfit}
 use Rattle.fields.proofs.Tests.{passed}
 use Rattle.fields.proofs.FileLaws.{fit-means}
-use Rattle.sorted.specs.Sorted.{laidOn}
 use Rattle.table.specs.declared.Table.{Table}
 use Rattle.table.specs.Entries.{blank, listOf, laid, ascending, wellFormed}
 use Rattle.frames.specs.declared.Frames.{Frames}
 use Rattle.frames.specs.declared.Touched.{Touched}
 use Rattle.frames.specs.Pages as pages
 use Rattle.frames.specs.Pages.{distinct, anyBad, laidFrames, laidTouched, frameCount, framesFormed, touchedFormed}
-use Rattle.frames.proofs.Values.{FramesForm, TouchedForm}
 use Rattle.world.specs.World.{filesOf}
 use Rattle.world.specs.Refusals.{anyOf, badBuffers, badTable, badTouched, badFrames, badStore, frontNo}
 use Rattle.form.specs.declared.Store.{Store}
-use Rattle.form.specs.Store.{firstOf, entriesOf, residentOf, touchedOf, memOf, worldOf, outOfForm}
+use Rattle.form.specs.Store.{entriesOf, residentOf, touchedOf, memOf, worldOf, outOfForm}
 use Rattle.form.proofs.Arrays.{or-false, none-of, length-first, first-fits, first-same, Sized, table-bad, touched-bad, frames-bad, count-most}
 
 -- ---- what the code tests

@@ -1,14 +1,14 @@
 -- From the code's outcomes to worlds: what a call leaves, read as a world, is `call` of the world that came in; so is a chain of calls. Assumes nothing.
 use Prim.Native.Nat.{ℕ, zero, suc}
-use mathlib.Core.Path.{_≡_, refl, sym, ap, _∙_}
+use mathlib.Core.Path.{_≡_, refl, ap, _∙_}
 use mathlib.Core.List.{List, [], _∷_}
 use Rattle.table.specs.Entries.{blank}
-use Rattle.world.specs.World.{Mem, World}
+use Rattle.world.specs.World.{World}
 use Rattle.world.specs.Calls.{Call}
 use Rattle.world.specs.Refusals.{refuses}
 use Rattle.world.specs.Run.{done, decided, call, run}
 use Rattle.form.specs.declared.Store.{Store}
-use Rattle.form.specs.Store.{firstOf, memOf, worldOf, laidStore, Outcome, worldIn, ending, calledOn}
+use Rattle.form.specs.Store.{memOf, worldOf, laidStore, Outcome, worldIn, ending, calledOn}
 use Rattle.form.proofs.Arrays.{first-laid}
 
 -- a world laid over a store, read back: no premise

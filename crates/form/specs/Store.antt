@@ -1,12 +1,11 @@
 -- From the code's store to the lists that the calls are defined over, and back; and what comes out of a call on a store. P is the page size.
 -- Each array of a store is read as the list of its first count elements. A changed store is its lists laid in front of the old arrays: what stands past a count
 -- stays. A refusal hands back the old store and changes no buffer. Assumes nothing.
-use Prim.Native.Nat.{ℕ, zero, suc, _-_}
+use Prim.Native.Nat.{ℕ, _-_}
 use mathlib.Core.List.{List, [], _∷_, _++_}
 use mathlib.Core.Bool.{Bool}
 use lib.ListN.{length, take, replicate}
 use lib.Dec.{ltb}
-use Rattle.fields.specs.declared.TransactionId.{TransactionId}
 use Rattle.table.specs.declared.Entry.{Entry}
 use Rattle.table.specs.declared.Table.{Table}
 use Rattle.table.specs.Entries.{blank, laid}
@@ -14,13 +13,10 @@ use Rattle.frames.specs.declared.Frames.{Frames}
 use Rattle.frames.specs.declared.Touched.{Touched}
 use Rattle.frames.specs.declared.Transaction.{Transaction}
 use Rattle.frames.specs.Pages.{laidFrames, laidTouched, frameCount}
-use Rattle.world.specs.declared.Slot.{Slot}
-use Rattle.world.specs.declared.Lens.{Lens}
-use Rattle.world.specs.World.{Files, Mem, World, filesOf, lensOf}
+use Rattle.world.specs.World.{Mem, World, filesOf, lensOf}
 use Rattle.world.specs.Calls.{Call, Install}
 use Rattle.world.specs.Refusals.{anyOf, badTable, badTouched, badFrames, refuses}
 use Rattle.world.specs.Run.{done, decided, call}
-use Rattle.form.specs.declared.Held.{Held}
 use Rattle.form.specs.declared.Store.{Store}
 use Rattle.form.specs.declared.Changed.{Changed}
 

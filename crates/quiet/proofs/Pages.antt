@@ -1,36 +1,33 @@
 -- Laws of reading and writing a page: its seat, the ways out of the code, and that a frame which is written whole need not be filled first. Assumes nothing.
-use Prim.Native.Nat.{ℕ, zero, suc, _+_, _-_, _*_, _≤_, _<_, max}
+use Prim.Native.Nat.{ℕ, zero, suc, _+_, _*_, _≤_, _<_, max}
 use native.Mathlib.Omega.{arith}
 use mathlib.Core.Path.{_≡_, refl, sym, ap, subst, _∙_}
-use mathlib.Core.List.{List, [], _∷_, _++_}
-use mathlib.Core.Bool.{Bool, true, false, cond, not}
-use lib.ListN.{length, take, drop, getD, replicate, length-append}
+use mathlib.Core.List.{List, [], _∷_}
+use mathlib.Core.Bool.{Bool, true, false, cond}
+use lib.ListN.{length, getD, replicate, length-append}
 use lib.Dec.{ltb}
 use lib.Seq.{sets, length-sets, take-all, ext-getD}
 use borrow.Author.Tests.{le-leb, lt-leb, le-ltb, lt-ltb}
 use Rattle.fields.specs.Bytes.{part}
-use Rattle.fields.specs.Files.{File, fileOf}
+use Rattle.fields.specs.Files.{fileOf}
 use Rattle.fields.proofs.Tests.{Order, less, most, order}
 use Rattle.fields.proofs.ByteLaws.{part-in}
 use Rattle.fields.proofs.Stored.{sets-before, sets-after, sets-in}
-use Rattle.frames.specs.declared.Frames.{Frames}
 use Rattle.frames.specs.declared.Seated.{Seated}
 use Rattle.frames.specs.declared.Place.{Place}
 use Rattle.frames.specs.declared.Place.the-variants.{At, Nowhere}
 use Rattle.frames.specs.Pages as pages
-use Rattle.frames.specs.Pages.{isIn, slotOf, badPage, withPage, laidFrames, frameCount, placeTold, foundIn, seated}
+use Rattle.frames.specs.Pages.{isIn, slotOf, withPage, laidFrames, frameCount, placeTold, foundIn, seated}
 use Rattle.frames.specs.Copies.{pageOf}
 use Rattle.frames.proofs.Lists.{slot-absent, with-old, with-new, with-slot}
 use Rattle.frames.proofs.Values.{at-means, nowhere-means, seat-old, seat-new, seat-full}
 use Rattle.frames.proofs.CopyLaws.{length-page}
-use Rattle.world.specs.World.{World}
 use Rattle.world.specs.Steps.{applyAll}
-use Rattle.world.specs.Calls.{Call, Read, Write, steps, keeps, seat, write, heldPage}
+use Rattle.world.specs.Calls.{Read, Write, steps, keeps, seat, write, heldPage}
 use Rattle.world.specs.Refusals.{argumentNo, callNo, holdNo, frontNo, refuses}
-use Rattle.world.specs.Run.{done, decided, call}
+use Rattle.world.specs.Run.{done, decided}
 use Rattle.form.specs.declared.Store.{Store}
-use Rattle.form.specs.declared.Changed.{Changed}
-use Rattle.form.specs.Store.{residentOf, memOf, worldOf, laidStore, outcome, ending, called, calledOn, given, handed}
+use Rattle.form.specs.Store.{residentOf, memOf, worldOf, laidStore, outcome, ending, called, given, handed}
 use Rattle.form.proofs.Arrays.{Sized, length-first}
 use Rattle.form.proofs.Front.{InForm, front-means, entries-length, touched-length, resident-length, resident-are, table-same, frames-same, touched-same}
 use Rattle.form.proofs.Called.{accepted, refused, quiet-is, handed-accepted, handed-refused}

@@ -1,26 +1,24 @@
 -- Laws of install, uninstall and the allocations, one for each way out of the code. Assumes nothing.
-use Prim.Native.Nat.{ℕ, zero, suc, _+_, _-_, _≤_, _<_}
+use Prim.Native.Nat.{ℕ, _+_, _≤_, _<_}
 use native.Mathlib.Omega.{arith}
-use mathlib.Core.Path.{_≡_, refl, sym, ap, _∙_}
-use mathlib.Core.List.{List, [], _∷_, _++_}
-use mathlib.Core.Bool.{Bool, true, false, cond, not}
+use mathlib.Core.Path.{_≡_, refl}
+use mathlib.Core.List.{List}
+use mathlib.Core.Bool.{true, false}
 use lib.ListN.{length}
 use borrow.Author.Tests.{le-leb, lt-leb}
 use Rattle.table.specs.Entries.{next64}
 use Rattle.frames.specs.declared.Touched.{Touched}
 use Rattle.frames.specs.declared.Transaction.{Transaction}
-use Rattle.frames.specs.Pages.{badPage, touchedFormed, emptyTouched}
+use Rattle.frames.specs.Pages.{emptyTouched}
 use Rattle.world.specs.declared.Slot.the-variants.{Installed, Empty}
 use Rattle.world.specs.Steps.{applyAll}
-use Rattle.world.specs.Calls.{Call, Install, Uninstall, AllocId, AllocPage, steps, keeps}
+use Rattle.world.specs.Calls.{Uninstall, AllocId, AllocPage, steps, keeps}
 use Rattle.world.specs.Refusals.{badTouched, isInstalled, argumentNo, callNo, frontNo}
 use Rattle.world.specs.Run.{done}
-use Rattle.form.specs.declared.Held.{Held}
 use Rattle.form.specs.declared.Store.{Store}
-use Rattle.form.specs.declared.Changed.{Changed}
-use Rattle.form.specs.Store.{touchedOf, memOf, worldOf, laidStore, outcome, called, calledOn, withArray, installed, given, handed}
-use Rattle.form.proofs.Arrays.{Sized, length-first, touched-bad}
-use Rattle.form.proofs.Front.{InForm, front-means, touched-few, entries-length, touched-length, resident-length, table-same, frames-same, touched-same}
+use Rattle.form.specs.Store.{touchedOf, memOf, worldOf, laidStore, outcome, called, calledOn, withArray, installed, given}
+use Rattle.form.proofs.Arrays.{Sized, length-first}
+use Rattle.form.proofs.Front.{front-means, touched-few, entries-length, touched-length, resident-length, table-same, frames-same, touched-same}
 use Rattle.form.proofs.Called.{refused-front, refused-call, accepted-call, quiet, handed-accepted, handed-refused}
 use Rattle.quiet.specs.Handed.{nothing, noId, uninstalled, idAllocated, pageAllocated}
 

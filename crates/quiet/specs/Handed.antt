@@ -1,7 +1,7 @@
 -- What the calls with no store hand out beside their outcome, and what they hand out where they are refused. P is the page size. Assumes nothing.
 use Prim.Native.Nat.{ℕ}
 use mathlib.Core.List.{List}
-use mathlib.Core.Bool.{Bool, true}
+use mathlib.Core.Bool.{true}
 use lib.ListN.{replicate}
 use Rattle.fields.specs.declared.TransactionId.{TransactionId}
 use Rattle.frames.specs.Pages.{isIn, slotOf, emptyTouched}

@@ -171,11 +171,11 @@ pub fn allocate_page(s: Store, log: &[u8], db: &[u8], clog: &[u8], frames: &[u8]
 // ---- pages
 
 // A page that is to be read or written: whether it was resident, its slot, and the store with it resident.
-pub struct Seat {
-    pub number: u8,
-    pub there: bool,
-    pub slot: usize,
-    pub store: Store,
+struct Seat {
+    number: u8,
+    there: bool,
+    slot: usize,
+    store: Store,
 }
 
 fn refused_seat(number: u8, s: Store) -> Seat

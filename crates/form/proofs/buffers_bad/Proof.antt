@@ -1,5 +1,4 @@
 -- `form::buffers_bad` meets its contract: the tests of `badBuffers`, one after the other. Assumes nothing.
-use mathlib.Core.Path.{_≡_}
 use Rattle.world.specs.Refusals.{badBuffers, anyOf}
 use borrow.Author.Needs.{needs}
 use Rattle.form.proofs.Arrays.{or-false}

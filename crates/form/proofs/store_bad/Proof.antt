@@ -1,6 +1,4 @@
 -- `form::store_bad` meets its contract: the tests of `outOfForm`, one after the other, in the words of the crates that make them. Assumes nothing.
-use mathlib.Core.Path.{_≡_}
-use lib.ListN.{length}
 use borrow.Author.Tests.{lt-ltb, le-ltb}
 use borrow.Author.Needs.{needs}
 use Rattle.sorted.proofs.Laws.{length-of-mapped}

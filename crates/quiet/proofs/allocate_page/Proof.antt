@@ -1,6 +1,5 @@
 -- `quiet::allocate_page` meets its contract: refused by 1 or 14, by 10, or the page count is given and goes up by one. Assumes nothing.
-use mathlib.Core.Path.{_≡_, sym, ap, _∙_}
-use lib.ListN.{length}
+use mathlib.Core.Path.{_≡_, sym, _∙_}
 use borrow.Author.Needs.{needs}
 use Rattle.sorted.proofs.Laws.{length-of-mapped}
 use Rattle.world.specs.Refusals.{frontNo}

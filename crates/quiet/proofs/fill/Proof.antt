@@ -1,5 +1,4 @@
 -- `quiet::fill` meets its contract: nothing where the page was there, else the file's page in its frame. Assumes nothing.
-use mathlib.Core.Path.{_≡_}
 use borrow.Author.Needs.{needs}
 use Rattle.quiet.proofs.fill.Statement.{statement}
 use Rattle.quiet.proofs.fill.Tie as tie

@@ -1,5 +1,4 @@
 -- `quiet::read_page` meets its contract: refused with the old store and zeros, or the page's frame is filled, unless it was there, and copied out. Assumes nothing.
-use mathlib.Core.Path.{_≡_, sym, _∙_}
 use borrow.Author.Needs.{needs}
 use Rattle.quiet.proofs.Pages.{read-refused, read-out}
 use Rattle.quiet.proofs.read_page.Statement.{statement}

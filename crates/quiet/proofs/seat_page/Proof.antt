@@ -1,6 +1,5 @@
 -- `quiet::seat_page` meets its contract: refused by 1 or 14, by 10, by 8, or the page is seated where it stands or next. Assumes nothing.
 use mathlib.Core.Path.{_≡_, sym, _∙_}
-use lib.ListN.{length}
 use borrow.Author.Needs.{needs}
 use Rattle.sorted.proofs.Laws.{length-of-mapped}
 use Rattle.world.specs.Refusals.{frontNo}

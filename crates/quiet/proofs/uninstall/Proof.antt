@@ -1,6 +1,5 @@
 -- `quiet::uninstall` meets its contract: refused by 1 or 14, or the transaction is handed out. Assumes nothing.
-use mathlib.Core.Path.{_≡_, sym, ap, _∙_}
-use lib.ListN.{length}
+use mathlib.Core.Path.{_≡_, sym, _∙_}
 use borrow.Author.Needs.{needs}
 use Rattle.sorted.proofs.Laws.{length-of-mapped}
 use Rattle.world.specs.Refusals.{frontNo}

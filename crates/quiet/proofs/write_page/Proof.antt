@@ -1,5 +1,5 @@
 -- `quiet::write_page` meets its contract: refused with the old store, or the bytes stand in the page's frame. Assumes nothing.
-use mathlib.Core.Path.{_≡_, sym, _∙_}
+use mathlib.Core.Path.{_≡_}
 use lib.ListN.{length}
 use borrow.Author.Needs.{needs}
 use Rattle.quiet.proofs.Pages.{write-refused, write-out}
