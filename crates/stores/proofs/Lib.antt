@@ -2,3 +2,4 @@
 pub mod PlanLaws
 pub mod StepLaws
 pub mod RoomLaws
+pub mod TellLaws
