@@ -3,3 +3,4 @@ pub mod PlanLaws
 pub mod StepLaws
 pub mod RoomLaws
 pub mod TellLaws
+pub mod MeantLaws
