@@ -502,7 +502,7 @@ fn number_for(plan: Plan, from: usize, lens: Lens, log: usize, db: usize, clog: 
     short_no(w, lens.log, log, db, clog)
 }
 
-// The number of a plan's stores on these files.
+// The number of a plan's stores on these files. The frames have no part in it; they are there because the stores are told with their bytes.
 pub fn room_no(plan: Plan, lens: Lens, log: &[u8], db: &[u8], clog: &[u8], frames: &[u8]) -> u8
     ensures { λ r. ⌜ r ≡ numberFor 4096 (meant 4096 (now (frames .entry)) plan) (filesOf lens (now (log .entry)) (now (db .entry)) (now (clog .entry))) ⌝ }
 {

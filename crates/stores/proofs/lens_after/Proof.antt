@@ -6,9 +6,6 @@ use mathlib.Core.Path.{sym, ap, _∙_}
 use borrow.Author.Needs.{needs}
 use Rattle.stores.proofs.lens_after.Statement.{statement}
 use Rattle.stores.proofs.lens_after.Tie as tie
-use Rattle.stores.proofs.lens_after.Reads as reads
-use Rattle.stores.proofs.lens_after.Lts as lts
-use Rattle.fields.proofs.larger.Reads as larger-reads
 
 enum-told : tie.Need-enum-told
 enum-told c = search needs

@@ -13,10 +13,6 @@ use Rattle.stores.proofs.PlanLaws.{most-steps}
 use Rattle.stores.proofs.TellLaws.{after-most, tell-turn, tell-here}
 use Rattle.stores.proofs.lens_at.Statement.{statement}
 use Rattle.stores.proofs.lens_at.Tie as tie
-use Rattle.stores.proofs.lens_at.Reads as reads
-use Rattle.stores.proofs.lens_at.Lts as lts
-use Rattle.stores.proofs.lens_after.Reads as lens-after-reads
-use Rattle.stores.proofs.step_at.Reads as step-at-reads
 
 abbrev Inv-loop : tie.InvT-loop
 Inv-loop plan k at₀ i₀ at i =

@@ -10,12 +10,6 @@ use mathlib.Core.Path.{_≡_, sym, ap, _∙_}
 use borrow.Author.Needs.{needs}
 use Rattle.stores.proofs.tell.Statement.{statement}
 use Rattle.stores.proofs.tell.Tie as tie
-use Rattle.stores.proofs.tell.Reads as reads
-use Rattle.stores.proofs.tell.Lts as lts
-use Rattle.stores.proofs.count.Reads as count-reads
-use Rattle.stores.proofs.lens_at.Reads as lens-at-reads
-use Rattle.stores.proofs.step_at.Reads as step-at-reads
-use Rattle.stores.proofs.told_of.Reads as told-of-reads
 
 returns : tie.Need-returns
 returns c =

@@ -7,9 +7,6 @@ use mathlib.Core.Path.{sym, ap, _∙_}
 use borrow.Author.Needs.{needs}
 use Rattle.stores.proofs.told_of.Statement.{statement}
 use Rattle.stores.proofs.told_of.Tie as tie
-use Rattle.stores.proofs.told_of.Reads as reads
-use Rattle.stores.proofs.told_of.Lts as lts
-use Rattle.clog.proofs.span_below.Reads as span-below-reads
 
 enum-told : tie.Need-enum-told
 enum-told c = search needs
