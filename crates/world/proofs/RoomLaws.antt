@@ -1,0 +1,201 @@
+-- The room that each call's stores need, over the page size P: bytes appended to the log, and the furthest end in the database and in the clog. The furthest
+-- end of written pages ps is said as `mostOf (dbEnd P) (writes P w ps)`. Assumes nothing.
+use mathlib.Core.Path.{_≡_, refl, sym, ap, _∙_}
+use mathlib.Core.List.{List, [], _∷_, _++_}
+use mathlib.Core.Bool.{Bool, true, false, cond}
+use Prim.Native.Nat.{ℕ, zero, suc, _+_, _*_, _/_, _≤_, _<_, max}
+use native.Mathlib.Nat.{suc-mul, zero-mul}
+use native.Mathlib.Omega.{arith}
+use borrow.Author.Tests.{lt-ltb}
+use lib.ListN.{length, length-append}
+use Rattle.fields.specs.declared.TransactionId.{TransactionId}
+use Rattle.fields.proofs.ByteLaws.{length-bytesOf, length-part}
+use Rattle.wal.specs.Records.{Record, image, begin, commit, abort, checkpoint, encode}
+use Rattle.wal.proofs.WriteLaws.{commit-size, page-size}
+use Rattle.meta.specs.Page.{metaPage}
+use Rattle.meta.proofs.Laws.{length-meta}
+use Rattle.frames.specs.Pages.{isIn, slotOf}
+use Rattle.frames.specs.Copies.{frameOf}
+use Rattle.world.specs.declared.Slot.the-variants.{Installed, Empty}
+use Rattle.world.specs.World.{Mem, World}
+use Rattle.world.specs.Steps.{Step, Log, Page, SetSlot, Compact, Truncate, logBytes, dbEnd, clogEnd, sumOf, mostOf}
+use Rattle.world.specs.Calls.{Begin, heldPage, held, dataPages, images, writes, metaStep, committed, rolledBack, advanced, flushSteps, commitSteps, dataSteps, backSteps, rollbackSteps, advanceSteps, steps}
+
+-- ---- lists of stores
+
+pub sum-append : (g : Step → ℕ) (ss ts : List Step) → sumOf g (ss ++ ts) ≡ sumOf g ss + sumOf g ts
+unfolding sumOf
+sum-append g [] ts = omega arith
+sum-append g (s ∷ ss) ts = let ih = sum-append g ss ts in omega arith
+
+pub most-append : (g : Step → ℕ) (ss ts : List Step) → mostOf g (ss ++ ts) ≡ max (mostOf g ss) (mostOf g ts)
+unfolding mostOf
+most-append g [] ts = omega arith
+most-append g (s ∷ ss) ts = let ih = most-append g ss ts in omega arith
+
+pub sum-cons : (g : Step → ℕ) (s : Step) (ss : List Step) → sumOf g (s ∷ ss) ≡ g s + sumOf g ss
+unfolding sumOf
+sum-cons g s ss = refl
+
+pub most-cons : (g : Step → ℕ) (s : Step) (ss : List Step) → mostOf g (s ∷ ss) ≡ max (g s) (mostOf g ss)
+unfolding mostOf
+most-cons g s ss = refl
+
+-- ---- a page
+
+pub held-length : (P : ℕ) (w : World) (p : ℕ) → length (heldPage P w p) ≡ P
+unfolding heldPage
+held-length P w p = length-part P (w .frames) (slotOf p (w .mem .resident) * P)
+
+pub image-bytes : (P : ℕ) (w : World) (p : ℕ) → logBytes (Log (image p (heldPage P w p))) ≡ 5 + P
+image-bytes P w p = page-size P p (heldPage P w p) (held-length P w p)
+
+pub page-end : (P : ℕ) (w : World) (p : ℕ) → dbEnd P (Page p (heldPage P w p)) ≡ p * P + P
+page-end P w p = rw (held-length P w p)
+
+-- page 0, written last, ends at P
+pub meta-end : (P : ℕ) (m : Mem) → 36 ≤ P → dbEnd P (metaStep P m) ≡ P
+meta-end P m h = rw (length-meta P h (m .next .0) (m .time .0) (m .mark .0), zero-mul) (omega arith)
+
+-- ---- pages logged, pages written
+
+module _ (P : ℕ) (w : World) where
+  pub images-log : (ps : List ℕ) → sumOf logBytes (images P w ps) ≡ length ps * (5 + P)
+  unfolding images sumOf
+  images-log [] = sym (zero-mul (5 + P))
+  images-log (p ∷ ps) = rw (image-bytes P w p, images-log ps) (omega (arith, suc-mul (length ps) (5 + P)))
+
+  pub images-db : (ps : List ℕ) → mostOf (dbEnd P) (images P w ps) ≡ 0
+  unfolding images mostOf
+  images-db [] = refl
+  images-db (p ∷ ps) = rw (images-db ps)
+
+  pub images-clog : (ps : List ℕ) → mostOf clogEnd (images P w ps) ≡ 0
+  unfolding images mostOf
+  images-clog [] = refl
+  images-clog (p ∷ ps) = rw (images-clog ps)
+
+  pub writes-log : (ps : List ℕ) → sumOf logBytes (writes P w ps) ≡ 0
+  unfolding writes sumOf
+  writes-log [] = refl
+  writes-log (p ∷ ps) = rw (writes-log ps)
+
+  pub writes-clog : (ps : List ℕ) → mostOf clogEnd (writes P w ps) ≡ 0
+  unfolding writes mostOf
+  writes-clog [] = refl
+  writes-clog (p ∷ ps) = rw (writes-clog ps)
+
+  -- the furthest end, page by page
+  pub writes-db-none : mostOf (dbEnd P) (writes P w []) ≡ 0
+  unfolding writes mostOf
+  writes-db-none = refl
+
+  pub writes-db : (p : ℕ) (ps : List ℕ) → mostOf (dbEnd P) (writes P w (p ∷ ps)) ≡ max (p * P + P) (mostOf (dbEnd P) (writes P w ps))
+  unfolding writes mostOf
+  writes-db p ps = rw (held-length P w p)
+
+-- it depends on the pages alone
+pub writes-db-same : (P : ℕ) (v w : World) (ps : List ℕ) → mostOf (dbEnd P) (writes P v ps) ≡ mostOf (dbEnd P) (writes P w ps)
+writes-db-same P v w [] = writes-db-none P v ∙ sym (writes-db-none P w)
+writes-db-same P v w (p ∷ ps) = rw (writes-db P v p ps, writes-db P w p ps, writes-db-same P v w ps)
+
+-- ---- begin
+
+module _ (P : ℕ) (id : TransactionId) (w : World) where
+  pub begin-log : sumOf logBytes (steps P (Begin id) w) ≡ 9
+  unfolding steps sumOf encode
+  begin-log = rw length-bytesOf
+
+  pub begin-db : mostOf (dbEnd P) (steps P (Begin id) w) ≡ 0
+  unfolding steps mostOf
+  begin-db = refl
+
+  pub begin-clog : mostOf clogEnd (steps P (Begin id) w) ≡ 8 + id .0 / 4 + 1
+  unfolding steps mostOf
+  begin-clog = omega arith
+
+-- ---- flush of a resident page outside a transaction
+
+module _ (P p : ℕ) (w : World) (there : isIn p (w .mem .resident) ≡ true) where
+  pub flush-log : sumOf logBytes (flushSteps P p w Empty) ≡ 5 + P
+  unfolding flushSteps sumOf
+  flush-log = rw (there, image-bytes P w p) (omega arith)
+
+  pub flush-db : mostOf (dbEnd P) (flushSteps P p w Empty) ≡ p * P + P
+  unfolding flushSteps mostOf
+  flush-db = rw (there, held-length P w p) (omega arith)
+
+  pub flush-clog : mostOf clogEnd (flushSteps P p w Empty) ≡ 0
+  unfolding flushSteps mostOf
+  flush-clog = rw there
+
+-- ---- commit
+
+module _ (P : ℕ) (w : World) (id : TransactionId) where
+  pub commit-log : sumOf logBytes (commitSteps P w (Installed id)) ≡ length (held (w .mem)) * (5 + P) + 18
+  unfolding commitSteps
+  commit-log =
+      simp (sum-append, sum-cons, images-log, writes-log, commit-size)
+      (unfold sumOf encode in omega arith)
+
+  pub commit-db : 36 ≤ P → mostOf (dbEnd P) (commitSteps P w (Installed id)) ≡ max P (mostOf (dbEnd P) (writes P w (held (w .mem))))
+  unfolding commitSteps
+  commit-db h = simp (most-append, most-cons, images-db) (unfold mostOf in omega (arith, meta-end P (committed id (w .mem)) h))
+
+  pub commit-clog : mostOf clogEnd (commitSteps P w (Installed id)) ≡ 8 + id .0 / 4 + 1
+  unfolding commitSteps
+  commit-clog = simp (most-append, most-cons, images-clog, writes-clog) (unfold mostOf in omega arith)
+
+-- ---- rollback
+
+data-log-some : (P : ℕ) (w : World) (ps : List ℕ) → 0 < length ps → sumOf logBytes (dataSteps P w ps) ≡ length ps * (5 + P) + 1
+unfolding dataSteps
+data-log-some P w [] h = absurd (omega arith)
+data-log-some P w (p ∷ ps) h = simp (sum-append, sum-cons, images-log, writes-log) (unfold sumOf encode in omega arith)
+
+data-db : (P : ℕ) (w : World) (ps : List ℕ) → mostOf (dbEnd P) (dataSteps P w ps) ≡ mostOf (dbEnd P) (writes P w ps)
+unfolding dataSteps
+data-db P w [] = unfold mostOf writes in refl
+data-db P w (p ∷ ps) = simp (most-append, most-cons, images-db) (unfold mostOf in omega arith)
+
+data-clog : (P : ℕ) (w : World) (ps : List ℕ) → mostOf clogEnd (dataSteps P w ps) ≡ 0
+unfolding dataSteps
+data-clog P w [] = unfold mostOf in refl
+data-clog P w (p ∷ ps) = simp (most-append, most-cons, images-clog, writes-clog) (unfold mostOf in refl)
+
+abort-size : (id : ℕ) → length (encode (abort id)) ≡ 9
+unfolding encode
+abort-size id = rw length-bytesOf
+
+module _ (P : ℕ) (list : List ℕ) (w : World) (id : TransactionId) where
+  pub rollback-log-none : dataPages list (w .mem) ≡ [] → sumOf logBytes (rollbackSteps P list w (Installed id)) ≡ 9
+  unfolding rollbackSteps backSteps dataSteps
+  rollback-log-none e = rw e (unfold sumOf in rw abort-size)
+
+  pub rollback-log : 0 < length (dataPages list (w .mem)) → sumOf logBytes (rollbackSteps P list w (Installed id)) ≡ 9 + (length (dataPages list (w .mem)) * (5 + P) + 1)
+  unfolding rollbackSteps backSteps
+  rollback-log h =
+      simp (sum-append, sum-cons, data-log-some P w (dataPages list (w .mem)) h, abort-size) (unfold sumOf in omega arith)
+
+  pub rollback-db : 36 ≤ P → mostOf (dbEnd P) (rollbackSteps P list w (Installed id)) ≡ max P (mostOf (dbEnd P) (writes P w (dataPages list (w .mem))))
+  unfolding rollbackSteps backSteps
+  rollback-db h = simp (most-append, most-cons, data-db) (unfold mostOf in omega (arith, meta-end P (rolledBack id (w .mem)) h))
+
+  pub rollback-clog : mostOf clogEnd (rollbackSteps P list w (Installed id)) ≡ 8 + id .0 / 4 + 1
+  unfolding rollbackSteps backSteps
+  rollback-clog = simp (most-append, most-cons, data-clog) (unfold mostOf in omega arith)
+
+-- ---- the mark goes up
+
+module _ (P : ℕ) (v : TransactionId) (w : World) (above : w .mem .mark .0 < v .0) where
+  pub advance-log : sumOf logBytes (advanceSteps P v w) ≡ 0
+  unfolding advanceSteps sumOf
+  advance-log = rw (lt-ltb (w .mem .mark .0) (v .0) above)
+
+  pub advance-db : 36 ≤ P → mostOf (dbEnd P) (advanceSteps P v w) ≡ P
+  unfolding advanceSteps mostOf
+  advance-db h = rw (lt-ltb (w .mem .mark .0) (v .0) above) (omega (arith, meta-end P (advanced v (w .mem)) h))
+
+  pub advance-clog : mostOf clogEnd (advanceSteps P v w) ≡ 0
+  unfolding advanceSteps mostOf
+  advance-clog = rw (lt-ltb (w .mem .mark .0) (v .0) above)
