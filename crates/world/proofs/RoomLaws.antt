@@ -4,7 +4,7 @@ use mathlib.Core.Path.{_≡_, refl, sym, ap, _∙_}
 use mathlib.Core.List.{List, [], _∷_, _++_}
 use mathlib.Core.Bool.{Bool, true, false, cond}
 use Prim.Native.Nat.{ℕ, zero, suc, _+_, _*_, _/_, _≤_, _<_, max}
-use native.Mathlib.Nat.{suc-mul, zero-mul}
+use native.Mathlib.Nat.{suc-mul, zero-mul, zero-max}
 use native.Mathlib.Omega.{arith}
 use borrow.Author.Tests.{lt-ltb}
 use lib.ListN.{length, length-append}
@@ -43,15 +43,15 @@ most-cons g s ss = refl
 
 -- ---- a page
 
-pub held-length : (P : ℕ) (w : World) (p : ℕ) → length (heldPage P w p) ≡ P
+pub heldPage-length : (P : ℕ) (w : World) (p : ℕ) → length (heldPage P w p) ≡ P
 unfolding heldPage
-held-length P w p = length-part P (w .frames) (slotOf p (w .mem .resident) * P)
+heldPage-length P w p = length-part P (w .frames) (slotOf p (w .mem .resident) * P)
 
 pub image-bytes : (P : ℕ) (w : World) (p : ℕ) → logBytes (Log (image p (heldPage P w p))) ≡ 5 + P
-image-bytes P w p = page-size P p (heldPage P w p) (held-length P w p)
+image-bytes P w p = page-size P p (heldPage P w p) (heldPage-length P w p)
 
 pub page-end : (P : ℕ) (w : World) (p : ℕ) → dbEnd P (Page p (heldPage P w p)) ≡ p * P + P
-page-end P w p = rw (held-length P w p)
+page-end P w p = rw (heldPage-length P w p)
 
 -- page 0, written last, ends at P
 pub meta-end : (P : ℕ) (m : Mem) → 36 ≤ P → dbEnd P (metaStep P m) ≡ P
@@ -92,7 +92,7 @@ module _ (P : ℕ) (w : World) where
 
   pub writes-db : (p : ℕ) (ps : List ℕ) → mostOf (dbEnd P) (writes P w (p ∷ ps)) ≡ max (p * P + P) (mostOf (dbEnd P) (writes P w ps))
   unfolding writes mostOf
-  writes-db p ps = rw (held-length P w p)
+  writes-db p ps = rw (heldPage-length P w p)
 
 -- it depends on the pages alone
 pub writes-db-same : (P : ℕ) (v w : World) (ps : List ℕ) → mostOf (dbEnd P) (writes P v ps) ≡ mostOf (dbEnd P) (writes P w ps)
@@ -123,13 +123,16 @@ module _ (P p : ℕ) (w : World) (there : isIn p (w .mem .resident) ≡ true) wh
 
   pub flush-db : mostOf (dbEnd P) (flushSteps P p w Empty) ≡ p * P + P
   unfolding flushSteps mostOf
-  flush-db = rw (there, held-length P w p) (omega arith)
+  flush-db = rw (there, heldPage-length P w p) (omega arith)
 
   pub flush-clog : mostOf clogEnd (flushSteps P p w Empty) ≡ 0
   unfolding flushSteps mostOf
   flush-clog = rw there
 
 -- ---- commit
+
+between : (a b : ℕ) → max 0 (max 0 (max a (max 0 (max 0 (max 0 (max b 0)))))) ≡ max b a
+between a b = simp zero-max (omega arith)
 
 module _ (P : ℕ) (w : World) (id : TransactionId) where
   pub commit-log : sumOf logBytes (commitSteps P w (Installed id)) ≡ length (held (w .mem)) * (5 + P) + 18
@@ -140,7 +143,9 @@ module _ (P : ℕ) (w : World) (id : TransactionId) where
 
   pub commit-db : 36 ≤ P → mostOf (dbEnd P) (commitSteps P w (Installed id)) ≡ max P (mostOf (dbEnd P) (writes P w (held (w .mem))))
   unfolding commitSteps
-  commit-db h = simp (most-append, most-cons, images-db) (unfold mostOf in omega (arith, meta-end P (committed id (w .mem)) h))
+  commit-db h =
+      simp (most-append, most-cons, images-db, meta-end P (committed id (w .mem)) h)
+      (unfold mostOf in between (mostOf (dbEnd P) (writes P w (held (w .mem)))) P)
 
   pub commit-clog : mostOf clogEnd (commitSteps P w (Installed id)) ≡ 8 + id .0 / 4 + 1
   unfolding commitSteps
