@@ -120,26 +120,26 @@ module _ (P : ℕ) (db : File) (p : ℕ) (w : World) where
   seat-resident = refl
 
   -- one that is resident: resident pages and frames stay
-  pub seat-old : isIn p (w .mem .resident) ≡ true → seat P db p w .mem .resident ≡ w .mem .resident
+  pub seat-resident-old : isIn p (w .mem .resident) ≡ true → seat P db p w .mem .resident ≡ w .mem .resident
   unfolding seat
-  seat-old h = with-old p (w .mem .resident) h
+  seat-resident-old h = with-old p (w .mem .resident) h
 
   pub seat-frames-old : isIn p (w .mem .resident) ≡ true → seat P db p w .frames ≡ w .frames
   unfolding seat
   seat-frames-old h = rw h
 
   -- another comes last, with the file's page in its frame
-  pub seat-new : isIn p (w .mem .resident) ≡ false → seat P db p w .mem .resident ≡ w .mem .resident ++ (p ∷ [])
+  pub seat-resident-new : isIn p (w .mem .resident) ≡ false → seat P db p w .mem .resident ≡ w .mem .resident ++ (p ∷ [])
   unfolding seat withPage
-  seat-new h = rw h
+  seat-resident-new h = rw h
 
   pub seat-frames-new : isIn p (w .mem .resident) ≡ false → seat P db p w .frames ≡ withFrame P (w .frames) (length (w .mem .resident)) (pageOf P db p)
   unfolding seat
   seat-frames-new h = rw h
 
-  pub seat-size : length (seat P db p w .frames) ≡ length (w .frames)
+  pub seat-frames-size : length (seat P db p w .frames) ≡ length (w .frames)
   unfolding seat
-  seat-size = go (isIn p (w .mem .resident))
+  seat-frames-size = go (isIn p (w .mem .resident))
     where
       go : (b : Bool) → length (cond b (w .frames) (withFrame P (w .frames) (length (w .mem .resident)) (pageOf P db p))) ≡ length (w .frames)
       go true = refl
@@ -181,8 +181,8 @@ module _ (P : ℕ) (db : File) (p : ℕ) (bytes : List ℕ) (w : World) where
   pub write-frames-page : length bytes ≡ P → write P db p bytes w .frames ≡ withFrame P (w .frames) (slotOf p (w .mem .resident)) bytes
   write-frames-page e = write-frames ∙ rw (part-whole P bytes e)
 
-  pub write-size : length (write P db p bytes w .frames) ≡ length (w .frames)
-  write-size = rw write-frames (length-with P (w .frames) (slotOf p (w .mem .resident)) (part P bytes 0))
+  pub write-frames-size : length (write P db p bytes w .frames) ≡ length (w .frames)
+  write-frames-size = rw write-frames (length-with P (w .frames) (slotOf p (w .mem .resident)) (part P bytes 0))
 
 -- whatever file it would be read from
 pub write-any : (P : ℕ) (db other : File) (p : ℕ) (bytes : List ℕ) (w : World) → write P db p bytes w .frames ≡ write P other p bytes w .frames
@@ -233,10 +233,10 @@ module _ (P : ℕ) (db : File) where
   revert-files [] w = refl
   revert-files (p ∷ ps) w = revert-files ps (write P db p (pageOf P db p) w) ∙ write-files P db p (pageOf P db p) w
 
-  pub revert-size : (ps : List ℕ) (w : World) → length (revert P db ps w .frames) ≡ length (w .frames)
+  pub revert-frames-size : (ps : List ℕ) (w : World) → length (revert P db ps w .frames) ≡ length (w .frames)
   unfolding revert
-  revert-size [] w = refl
-  revert-size (p ∷ ps) w = revert-size ps (write P db p (pageOf P db p) w) ∙ write-size P db p (pageOf P db p) w
+  revert-frames-size [] w = refl
+  revert-frames-size (p ∷ ps) w = revert-frames-size ps (write P db p (pageOf P db p) w) ∙ write-frames-size P db p (pageOf P db p) w
 
   -- a write of a resident page raises the page count, and no more of memory
   write-old : (p : ℕ) (bytes : List ℕ) (w : World) → isIn p (w .mem .resident) ≡ true →
@@ -280,5 +280,5 @@ module _ (P : ℕ) (db : File) (m : Mem) (w : World) where
   pub meta-frames : 36 ≤ P → metaWritten P db m w .frames ≡ withFrame P (w .frames) (slotOf 0 (m .resident)) (metaPage P (m .next .0) (m .time .0) (m .mark .0))
   meta-frames h = write-frames-page P db 0 (metaPage P (m .next .0) (m .time .0) (m .mark .0)) (withMem m w) (length-meta P h (m .next .0) (m .time .0) (m .mark .0))
 
-  pub meta-size : length (metaWritten P db m w .frames) ≡ length (w .frames)
-  meta-size = write-size P db 0 (metaPage P (m .next .0) (m .time .0) (m .mark .0)) (withMem m w)
+  pub meta-frames-size : length (metaWritten P db m w .frames) ≡ length (w .frames)
+  meta-frames-size = write-frames-size P db 0 (metaPage P (m .next .0) (m .time .0) (m .mark .0)) (withMem m w)

@@ -1,0 +1,432 @@
+-- The calls begin, flush, commit, rollback and advance, over the page size P: their stores, what each leaves in memory and frames, its number as a chain of
+-- tests, and the files that its stores leave. Tests that a store in form cannot fail are left out of the chains. Assumes nothing.
+use mathlib.Core.Path.{_≡_, refl, sym, ap, _∙_}
+use mathlib.Core.List.{List, [], _∷_, _++_}
+use mathlib.Core.Bool.{Bool, true, false, cond}
+use Prim.Native.Nat.{ℕ, zero, suc, _+_, _*_, _/_, _≤_, _<_, max}
+use native.Mathlib.Omega.{arith}
+use borrow.Author.Tests.{lt-ltb, le-ltb}
+use lib.Dec.{ltb}
+use lib.ListN.{length}
+use Rattle.fields.specs.declared.TransactionId.{TransactionId}
+use Rattle.fields.specs.Files.{File, room}
+use Rattle.wal.specs.Records.{image, begin, commit, abort, checkpoint}
+use Rattle.table.specs.declared.Status.the-variants.{Active, Committed, Aborted}
+use Rattle.table.specs.declared.Entry.{Entry}
+use Rattle.table.specs.Entries.{insertEntry}
+use Rattle.meta.specs.Page.{metaPage}
+use Rattle.frames.specs.Pages.{isIn, slotOf, withPage, touch, badPage, anyBad, frameCount}
+use Rattle.frames.specs.Copies.{withFrame}
+use Rattle.world.specs.declared.Slot.{Slot}
+use Rattle.world.specs.declared.Slot.the-variants.{Installed, Empty}
+use Rattle.world.specs.World.{Files, Mem, World, withMem, withCounts}
+use Rattle.world.specs.Steps.{Step, Log, Page, SetSlot, Compact, Truncate, apply, applyAll, logBytes, dbEnd, clogEnd, sumOf, mostOf}
+use Rattle.world.specs.Calls.{Call, Begin, Flush, Commit, Rollback, Advance, heldPage, revert, held, catalogPages, dataPages, nextTime, committed, rolledBack, advanced, metaStep, images, writes, flushSteps, commitSteps, dataSteps, backSteps, rollbackSteps, advanceSteps, steps, metaWritten, flushKeeps, commitKeeps, rollbackKeeps, advanceKeeps, keeps}
+use Rattle.world.specs.Refusals.{orElse, argumentNo, roomNo, holdNo, callNo}
+use Rattle.world.specs.Run.{done}
+use Rattle.world.proofs.Laws.{apply-append}
+use Rattle.world.proofs.RoomLaws.{begin-log, begin-db, begin-clog, flush-log, flush-db, flush-clog, commit-log, commit-db, commit-clog, rollback-db, rollback-clog, advance-log, advance-db, advance-clog}
+use Rattle.world.proofs.FrameLaws.{catalog-resident, raised, refilled, refilled-size, revert-frames-size, revert-mem, revert-frames, meta-mem, meta-frames, meta-frames-size}
+
+-- ---- a call's number as one chain
+
+-- touched pages, log bytes, ends in database and clog, entries, resident pages
+abbrev pub chainOf : ℕ → World → ℕ → ℕ → ℕ → ℕ → ℕ → ℕ → ℕ
+chainOf P w touched log db clog entries resident =
+    cond (ltb 64 touched) 11
+    (cond (ltb (room (w .files .log)) (w .files .log .len + log)) 4
+    (cond (ltb (room (w .files .db)) db) 5
+    (cond (ltb (room (w .files .clog)) clog) 6
+    (cond (ltb 256 entries) 7
+    (cond (ltb (frameCount 64 P (length (w .frames))) resident) 8 0)))))
+
+room-first : (a b c : Bool) (r : ℕ) → orElse (cond a 4 (cond b 5 (cond c 6 0))) r ≡ cond a 4 (cond b 5 (cond c 6 r))
+room-first true b c r = refl
+room-first false true c r = refl
+room-first false false true r = refl
+room-first false false false r = refl
+
+ten-first : (b : Bool) (r : ℕ) → orElse (cond b 10 0) r ≡ cond b 10 r
+ten-first true r = refl
+ten-first false r = refl
+
+module _ (P : ℕ) (c : Call) (w : World) where
+  pub call-no : length (keeps P c w .frames) ≡ length (w .frames) → callNo P c w ≡ orElse (argumentNo c w)
+      (chainOf P w (length (keeps P c w .mem .touched)) (sumOf logBytes (steps P c w)) (mostOf (dbEnd P) (steps P c w)) (mostOf clogEnd (steps P c w)) (length (keeps P c w .mem .table)) (length (keeps P c w .mem .resident)))
+  unfolding callNo roomNo holdNo
+  call-no e = rw (room-first, e)
+
+  -- with the numbers given
+  module _ (same : length (keeps P c w .frames) ≡ length (w .frames)) where
+    pub call-chain : (t l d g e r : ℕ) → length (keeps P c w .mem .touched) ≡ t → sumOf logBytes (steps P c w) ≡ l → mostOf (dbEnd P) (steps P c w) ≡ d →
+        mostOf clogEnd (steps P c w) ≡ g → length (keeps P c w .mem .table) ≡ e → length (keeps P c w .mem .resident) ≡ r →
+        callNo P c w ≡ orElse (argumentNo c w) (chainOf P w t l d g e r)
+    call-chain t l d g e r et el ed eg ee er = call-no same ∙ rw (et, el, ed, eg, ee, er)
+
+    -- one with no store, that leaves table and resident pages
+    pub call-quiet : steps P c w ≡ [] → keeps P c w .mem .table ≡ w .mem .table → keeps P c w .mem .resident ≡ w .mem .resident →
+        w .files .log .len ≤ room (w .files .log) → length (w .mem .table) ≤ 256 → length (w .mem .resident) ≤ frameCount 64 P (length (w .frames)) →
+        callNo P c w ≡ orElse (argumentNo c w) (cond (ltb 64 (length (keeps P c w .mem .touched))) 11 0)
+    unfolding sumOf mostOf
+    call-quiet es et er hl he hr =
+        call-chain (length (keeps P c w .mem .touched)) 0 0 0 (length (w .mem .table)) (length (w .mem .resident)) refl (rw es) (rw es) (rw es) (ap length et) (ap length er)
+        ∙ rw (
+          le-ltb (room (w .files .log)) (w .files .log .len + 0) (omega arith),
+          le-ltb (room (w .files .db)) 0 (omega arith),
+          le-ltb (room (w .files .clog)) 0 (omega arith),
+          le-ltb 256 (length (w .mem .table)) he,
+          le-ltb (frameCount 64 P (length (w .frames))) (length (w .mem .resident)) hr,
+        )
+
+-- ---- begin
+
+module _ (P : ℕ) (id : TransactionId) (w : World) where
+  pub begin-mem : keeps P (Begin id) w .mem ≡ record {
+      pages = w .mem .pages;
+      next = w .mem .next;
+      time = w .mem .time;
+      mark = w .mem .mark;
+      table = insertEntry (record { id = id; status = Active }) (w .mem .table);
+      resident = w .mem .resident;
+      slot = Installed id;
+      touched = [];
+    }
+  unfolding keeps
+  begin-mem = refl
+
+  pub begin-frames : keeps P (Begin id) w .frames ≡ w .frames
+  unfolding keeps
+  begin-frames = refl
+
+  -- 4, 6, 7
+  pub begin-no : length (w .mem .resident) ≤ frameCount 64 P (length (w .frames)) → callNo P (Begin id) w ≡
+      cond (ltb (room (w .files .log)) (w .files .log .len + 9)) 4
+      (cond (ltb (room (w .files .clog)) (8 + id .0 / 4 + 1)) 6
+      (cond (ltb 256 (length (insertEntry (record { id = id; status = Active }) (w .mem .table)))) 7 0))
+  unfolding keeps argumentNo
+  begin-no few =
+      call-chain P (Begin id) w refl 0 9 0 (8 + id .0 / 4 + 1) (length (insertEntry (record { id = id; status = Active }) (w .mem .table))) (length (w .mem .resident))
+      refl (begin-log P id w) (begin-db P id w) (begin-clog P id w) refl refl
+      ∙ rw (le-ltb (room (w .files .db)) 0 (omega arith), le-ltb (frameCount 64 P (length (w .frames))) (length (w .mem .resident)) few)
+
+  pub begin-files : done P (Begin id) w .files ≡ apply P (SetSlot (id .0) Active) (apply P (Log (begin (id .0))) (w .files))
+  unfolding done steps applyAll
+  begin-files = refl
+
+-- ---- flush
+
+module _ (P p : ℕ) (w : World) where
+  -- inside a transaction
+  module _ (id : TransactionId) (inside : w .mem .slot ≡ Installed id) where
+    pub flush-steps-in : steps P (Flush p) w ≡ []
+    unfolding steps flushSteps
+    flush-steps-in = rw inside
+
+    pub flush-mem-in : keeps P (Flush p) w .mem ≡ record {
+        pages = w .mem .pages;
+        next = w .mem .next;
+        time = w .mem .time;
+        mark = w .mem .mark;
+        table = w .mem .table;
+        resident = w .mem .resident;
+        slot = Installed id;
+        touched = touch p (w .mem .touched);
+      }
+    unfolding keeps flushKeeps
+    flush-mem-in = rw inside
+
+    pub flush-frames-in : keeps P (Flush p) w .frames ≡ w .frames
+    unfolding keeps flushKeeps
+    flush-frames-in = rw inside
+
+    -- 10, 11
+    pub flush-no-in : w .files .log .len ≤ room (w .files .log) → length (w .mem .table) ≤ 256 → length (w .mem .resident) ≤ frameCount 64 P (length (w .frames)) →
+        callNo P (Flush p) w ≡ cond (badPage p) 10 (cond (ltb 64 (length (touch p (w .mem .touched)))) 11 0)
+    unfolding argumentNo
+    flush-no-in hl he hr =
+        call-quiet P (Flush p) w (ap length flush-frames-in) flush-steps-in (ap (λ (m : Mem). m .table) flush-mem-in) (ap (λ (m : Mem). m .resident) flush-mem-in) hl he hr
+        ∙ ap (λ (m : Mem). orElse (cond (badPage p) 10 0) (cond (ltb 64 (length (m .touched))) 11 0)) flush-mem-in
+        ∙ ten-first (badPage p) (cond (ltb 64 (length (touch p (w .mem .touched)))) 11 0)
+
+  -- outside
+  module _ (outside : w .mem .slot ≡ Empty) where
+    pub flush-keeps-out : keeps P (Flush p) w ≡ w
+    unfolding keeps flushKeeps
+    flush-keeps-out = rw outside
+
+    -- a page that is not resident: 10
+    module _ (absent : isIn p (w .mem .resident) ≡ false) where
+      pub flush-steps-absent : steps P (Flush p) w ≡ []
+      unfolding steps flushSteps
+      flush-steps-absent = rw (outside, absent)
+
+      pub flush-no-absent : w .files .log .len ≤ room (w .files .log) → length (w .mem .table) ≤ 256 → length (w .mem .touched) ≤ 64 →
+          length (w .mem .resident) ≤ frameCount 64 P (length (w .frames)) → callNo P (Flush p) w ≡ cond (badPage p) 10 0
+      unfolding argumentNo
+      flush-no-absent hl he ht hr =
+          call-quiet P (Flush p) w (ap (λ (v : World). length (v .frames)) flush-keeps-out) flush-steps-absent (ap (λ (v : World). v .mem .table) flush-keeps-out)
+          (ap (λ (v : World). v .mem .resident) flush-keeps-out) hl he hr
+          ∙ ap (λ (v : World). orElse (cond (badPage p) 10 0) (cond (ltb 64 (length (v .mem .touched))) 11 0)) flush-keeps-out
+          ∙ rw (le-ltb 64 (length (w .mem .touched)) ht) (ten-first (badPage p) 0)
+
+    -- a resident page: 10, 4, 5
+    module _ (there : isIn p (w .mem .resident) ≡ true) where
+      pub flush-steps-out : steps P (Flush p) w ≡ Log (image p (heldPage P w p)) ∷ Page p (heldPage P w p) ∷ []
+      unfolding steps flushSteps
+      flush-steps-out = rw (outside, there)
+
+      pub flush-files-out : done P (Flush p) w .files ≡ apply P (Page p (heldPage P w p)) (apply P (Log (image p (heldPage P w p))) (w .files))
+      unfolding done applyAll
+      flush-files-out = rw flush-steps-out
+
+      flush-same : steps P (Flush p) w ≡ flushSteps P p w Empty
+      unfolding steps
+      flush-same = rw outside
+
+      pub flush-no-out : length (w .mem .table) ≤ 256 → length (w .mem .touched) ≤ 64 → length (w .mem .resident) ≤ frameCount 64 P (length (w .frames)) →
+          callNo P (Flush p) w ≡ cond (badPage p) 10 (cond (ltb (room (w .files .log)) (w .files .log .len + (5 + P))) 4 (cond (ltb (room (w .files .db)) (p * P + P)) 5 0))
+      unfolding argumentNo
+      flush-no-out he ht hr =
+          call-chain P (Flush p) w (ap (λ (v : World). length (v .frames)) flush-keeps-out) (length (w .mem .touched)) (5 + P) (p * P + P) 0 (length (w .mem .table)) (length (w .mem .resident))
+          (ap (λ (v : World). length (v .mem .touched)) flush-keeps-out) (ap (sumOf logBytes) flush-same ∙ flush-log P p w there) (ap (mostOf (dbEnd P)) flush-same ∙ flush-db P p w there)
+          (ap (mostOf clogEnd) flush-same ∙ flush-clog P p w there) (ap (λ (v : World). length (v .mem .table)) flush-keeps-out) (ap (λ (v : World). length (v .mem .resident)) flush-keeps-out)
+          ∙ rw (
+            le-ltb 64 (length (w .mem .touched)) ht,
+            le-ltb (room (w .files .clog)) 0 (omega arith),
+            le-ltb 256 (length (w .mem .table)) he,
+            le-ltb (frameCount 64 P (length (w .frames))) (length (w .mem .resident)) hr,
+          )
+          (ten-first (badPage p) (cond (ltb (room (w .files .log)) (w .files .log .len + (5 + P))) 4 (cond (ltb (room (w .files .db)) (p * P + P)) 5 0)))
+
+-- ---- commit
+
+module _ (P : ℕ) (w : World) where
+  -- with no transaction: nothing
+  module _ (outside : w .mem .slot ≡ Empty) where
+    pub commit-steps-empty : steps P Commit w ≡ []
+    unfolding steps commitSteps
+    commit-steps-empty = rw outside
+
+    pub commit-keeps-empty : keeps P Commit w ≡ w
+    unfolding keeps commitKeeps
+    commit-keeps-empty = rw outside
+
+    pub commit-no-empty : w .files .log .len ≤ room (w .files .log) → length (w .mem .table) ≤ 256 → length (w .mem .touched) ≤ 64 →
+        length (w .mem .resident) ≤ frameCount 64 P (length (w .frames)) → callNo P Commit w ≡ 0
+    unfolding argumentNo
+    commit-no-empty hl he ht hr =
+        call-quiet P Commit w (ap (λ (v : World). length (v .frames)) commit-keeps-empty) commit-steps-empty (ap (λ (v : World). v .mem .table) commit-keeps-empty)
+        (ap (λ (v : World). v .mem .resident) commit-keeps-empty) hl he hr
+        ∙ ap (λ (v : World). cond (ltb 64 (length (v .mem .touched))) 11 0) commit-keeps-empty
+        ∙ rw (le-ltb 64 (length (w .mem .touched)) ht)
+
+  module _ (id : TransactionId) (inside : w .mem .slot ≡ Installed id) where
+    pub commit-steps : steps P Commit w ≡ commitSteps P w (Installed id)
+    unfolding steps
+    commit-steps = rw inside
+
+    pub commit-keeps : keeps P Commit w ≡ metaWritten P (w .files .db) (committed id (w .mem)) w
+    unfolding keeps commitKeeps
+    commit-keeps = rw inside
+
+    pub commit-mem : keeps P Commit w .mem ≡ record {
+        pages = max (w .mem .pages) 1;
+        next = w .mem .next;
+        time = nextTime (w .mem .time);
+        mark = w .mem .mark;
+        table = insertEntry (record { id = id; status = Committed (w .mem .time) }) (w .mem .table);
+        resident = withPage 0 (w .mem .resident);
+        slot = Empty;
+        touched = [];
+      }
+    unfolding committed
+    commit-mem = ap (λ (v : World). v .mem) commit-keeps ∙ meta-mem P (w .files .db) (committed id (w .mem)) w
+
+    pub commit-frames : 36 ≤ P → keeps P Commit w .frames ≡ withFrame P (w .frames) (slotOf 0 (w .mem .resident)) (metaPage P (w .mem .next .0) (nextTime (w .mem .time) .0) (w .mem .mark .0))
+    unfolding committed
+    commit-frames h = ap (λ (v : World). v .frames) commit-keeps ∙ meta-frames P (w .files .db) (committed id (w .mem)) w h
+
+    pub commit-frames-size : length (keeps P Commit w .frames) ≡ length (w .frames)
+    commit-frames-size = ap (λ (v : World). length (v .frames)) commit-keeps ∙ meta-frames-size P (w .files .db) (committed id (w .mem)) w
+
+    -- 4, 5, 6, 7, 8
+    pub commit-no : 36 ≤ P → callNo P Commit w ≡
+        cond (ltb (room (w .files .log)) (w .files .log .len + (length (held (w .mem)) * (5 + P) + 18))) 4
+        (cond (ltb (room (w .files .db)) (max P (mostOf (dbEnd P) (writes P w (held (w .mem)))))) 5
+        (cond (ltb (room (w .files .clog)) (8 + id .0 / 4 + 1)) 6
+        (cond (ltb 256 (length (insertEntry (record { id = id; status = Committed (w .mem .time) }) (w .mem .table)))) 7
+        (cond (ltb (frameCount 64 P (length (w .frames))) (length (withPage 0 (w .mem .resident)))) 8 0))))
+    unfolding argumentNo
+    commit-no h =
+        call-chain P Commit w commit-frames-size 0 (length (held (w .mem)) * (5 + P) + 18) (max P (mostOf (dbEnd P) (writes P w (held (w .mem))))) (8 + id .0 / 4 + 1)
+        (length (insertEntry (record { id = id; status = Committed (w .mem .time) }) (w .mem .table))) (length (withPage 0 (w .mem .resident)))
+        (ap (λ (m : Mem). length (m .touched)) commit-mem) (ap (sumOf logBytes) commit-steps ∙ commit-log P w id) (ap (mostOf (dbEnd P)) commit-steps ∙ commit-db P w id h)
+        (ap (mostOf clogEnd) commit-steps ∙ commit-clog P w id) (ap (λ (m : Mem). length (m .table)) commit-mem) (ap (λ (m : Mem). length (m .resident)) commit-mem)
+
+-- ---- rollback
+
+module _ (P : ℕ) (list : List ℕ) (w : World) where
+  -- with no transaction: 10
+  module _ (outside : w .mem .slot ≡ Empty) where
+    pub rollback-steps-empty : steps P (Rollback list) w ≡ []
+    unfolding steps rollbackSteps
+    rollback-steps-empty = rw outside
+
+    pub rollback-keeps-empty : keeps P (Rollback list) w ≡ w
+    unfolding keeps rollbackKeeps
+    rollback-keeps-empty = rw outside
+
+    pub rollback-no-empty : w .files .log .len ≤ room (w .files .log) → length (w .mem .table) ≤ 256 → length (w .mem .touched) ≤ 64 →
+        length (w .mem .resident) ≤ frameCount 64 P (length (w .frames)) → callNo P (Rollback list) w ≡ cond (anyBad list) 10 0
+    unfolding argumentNo
+    rollback-no-empty hl he ht hr =
+        call-quiet P (Rollback list) w (ap (λ (v : World). length (v .frames)) rollback-keeps-empty) rollback-steps-empty (ap (λ (v : World). v .mem .table) rollback-keeps-empty)
+        (ap (λ (v : World). v .mem .resident) rollback-keeps-empty) hl he hr
+        ∙ ap (λ (v : World). orElse (cond (anyBad list) 10 0) (cond (ltb 64 (length (v .mem .touched))) 11 0)) rollback-keeps-empty
+        ∙ rw (le-ltb 64 (length (w .mem .touched)) ht) (ten-first (anyBad list) 0)
+
+  module _ (id : TransactionId) where
+    -- the files before meta, and the world with the catalog pages as those files have them
+    abbrev pub backFiles : Files
+    backFiles = applyAll P (backSteps P list w id) (w .files)
+
+    abbrev pub reverted : World
+    reverted = revert P (backFiles .db) (catalogPages list (w .mem)) w
+
+    pub reverted-mem : reverted .mem ≡ withCounts (raised (w .mem .pages) (catalogPages list (w .mem))) (w .mem .next) (w .mem .time) (w .mem .mark) (w .mem)
+    reverted-mem = revert-mem P (backFiles .db) (catalogPages list (w .mem)) w (catalog-resident (w .mem) list)
+
+    pub reverted-frames : reverted .frames ≡ refilled P (backFiles .db) (w .mem .resident) (catalogPages list (w .mem)) (w .frames)
+    reverted-frames = revert-frames P (backFiles .db) (catalogPages list (w .mem)) w (catalog-resident (w .mem) list)
+
+    module _ (inside : w .mem .slot ≡ Installed id) where
+      pub rollback-steps : steps P (Rollback list) w ≡ rollbackSteps P list w (Installed id)
+      unfolding steps
+      rollback-steps = rw inside
+
+      pub rollback-keeps : keeps P (Rollback list) w ≡ metaWritten P (backFiles .db) (rolledBack id (reverted .mem)) reverted
+      unfolding keeps rollbackKeeps
+      rollback-keeps = rw inside
+
+      pub rollback-mem : keeps P (Rollback list) w .mem ≡ record {
+          pages = max (raised (w .mem .pages) (catalogPages list (w .mem))) 1;
+          next = w .mem .next;
+          time = w .mem .time;
+          mark = w .mem .mark;
+          table = insertEntry (record { id = id; status = Aborted }) (w .mem .table);
+          resident = withPage 0 (w .mem .resident);
+          slot = Empty;
+          touched = [];
+        }
+      unfolding rolledBack
+      rollback-mem =
+          ap (λ (v : World). v .mem) rollback-keeps ∙ meta-mem P (backFiles .db) (rolledBack id (reverted .mem)) reverted
+          ∙ ap (λ (m : Mem). record {
+            pages = max (m .pages) 1;
+            next = m .next;
+            time = m .time;
+            mark = m .mark;
+            table = insertEntry (record { id = id; status = Aborted }) (m .table);
+            resident = withPage 0 (m .resident);
+            slot = Empty;
+            touched = [];
+          }) reverted-mem
+
+      pub rollback-frames : 36 ≤ P → keeps P (Rollback list) w .frames ≡
+          withFrame P (refilled P (backFiles .db) (w .mem .resident) (catalogPages list (w .mem)) (w .frames)) (slotOf 0 (w .mem .resident)) (metaPage P (w .mem .next .0) (w .mem .time .0) (w .mem .mark .0))
+      unfolding rolledBack
+      rollback-frames h =
+          ap (λ (v : World). v .frames) rollback-keeps ∙ meta-frames P (backFiles .db) (rolledBack id (reverted .mem)) reverted h
+          ∙ ap (λ (m : Mem). withFrame P (reverted .frames) (slotOf 0 (m .resident)) (metaPage P (m .next .0) (m .time .0) (m .mark .0))) reverted-mem
+          ∙ ap (λ (b : List ℕ). withFrame P b (slotOf 0 (w .mem .resident)) (metaPage P (w .mem .next .0) (w .mem .time .0) (w .mem .mark .0))) reverted-frames
+
+      pub rollback-frames-size : length (keeps P (Rollback list) w .frames) ≡ length (w .frames)
+      rollback-frames-size =
+          ap (λ (v : World). length (v .frames)) rollback-keeps ∙ meta-frames-size P (backFiles .db) (rolledBack id (reverted .mem)) reverted
+          ∙ revert-frames-size P (backFiles .db) (catalogPages list (w .mem)) w
+
+      -- 10, 4, 5, 6, 7, 8
+      pub rollback-no : 36 ≤ P → callNo P (Rollback list) w ≡
+          cond (anyBad list) 10
+          (cond (ltb (room (w .files .log)) (w .files .log .len + sumOf logBytes (rollbackSteps P list w (Installed id)))) 4
+          (cond (ltb (room (w .files .db)) (max P (mostOf (dbEnd P) (writes P w (dataPages list (w .mem)))))) 5
+          (cond (ltb (room (w .files .clog)) (8 + id .0 / 4 + 1)) 6
+          (cond (ltb 256 (length (insertEntry (record { id = id; status = Aborted }) (w .mem .table)))) 7
+          (cond (ltb (frameCount 64 P (length (w .frames))) (length (withPage 0 (w .mem .resident)))) 8 0)))))
+      unfolding argumentNo
+      rollback-no h =
+          call-chain P (Rollback list) w rollback-frames-size 0 (sumOf logBytes (rollbackSteps P list w (Installed id))) (max P (mostOf (dbEnd P) (writes P w (dataPages list (w .mem))))) (8 + id .0 / 4 + 1)
+          (length (insertEntry (record { id = id; status = Aborted }) (w .mem .table))) (length (withPage 0 (w .mem .resident)))
+          (ap (λ (m : Mem). length (m .touched)) rollback-mem) (ap (sumOf logBytes) rollback-steps) (ap (mostOf (dbEnd P)) rollback-steps ∙ rollback-db P list w id h)
+          (ap (mostOf clogEnd) rollback-steps ∙ rollback-clog P list w id) (ap (λ (m : Mem). length (m .table)) rollback-mem) (ap (λ (m : Mem). length (m .resident)) rollback-mem)
+          ∙ ten-first (anyBad list) _
+
+-- ---- the mark
+
+module _ (P : ℕ) (v : TransactionId) (w : World) where
+  -- not above the old one: nothing
+  module _ (below : v .0 ≤ w .mem .mark .0) where
+    pub advance-steps-none : steps P (Advance v) w ≡ []
+    unfolding steps advanceSteps
+    advance-steps-none = rw (le-ltb (w .mem .mark .0) (v .0) below)
+
+    pub advance-keeps-none : keeps P (Advance v) w ≡ w
+    unfolding keeps advanceKeeps
+    advance-keeps-none = rw (le-ltb (w .mem .mark .0) (v .0) below)
+
+    pub advance-no-none : w .files .log .len ≤ room (w .files .log) → length (w .mem .table) ≤ 256 → length (w .mem .touched) ≤ 64 →
+        length (w .mem .resident) ≤ frameCount 64 P (length (w .frames)) → callNo P (Advance v) w ≡ 0
+    unfolding argumentNo
+    advance-no-none hl he ht hr =
+        call-quiet P (Advance v) w (ap (λ (u : World). length (u .frames)) advance-keeps-none) advance-steps-none (ap (λ (u : World). u .mem .table) advance-keeps-none)
+        (ap (λ (u : World). u .mem .resident) advance-keeps-none) hl he hr
+        ∙ ap (λ (u : World). cond (ltb 64 (length (u .mem .touched))) 11 0) advance-keeps-none
+        ∙ rw (le-ltb 64 (length (w .mem .touched)) ht)
+
+  module _ (above : w .mem .mark .0 < v .0) where
+    pub advance-steps : steps P (Advance v) w ≡ Compact (v .0) ∷ metaStep P (advanced v (w .mem)) ∷ []
+    unfolding steps advanceSteps
+    advance-steps = rw (lt-ltb (w .mem .mark .0) (v .0) above)
+
+    pub advance-keeps : keeps P (Advance v) w ≡ metaWritten P (w .files .db) (advanced v (w .mem)) w
+    unfolding keeps advanceKeeps
+    advance-keeps = rw (lt-ltb (w .mem .mark .0) (v .0) above)
+
+    pub advance-mem : keeps P (Advance v) w .mem ≡ record {
+        pages = max (w .mem .pages) 1;
+        next = w .mem .next;
+        time = w .mem .time;
+        mark = v;
+        table = w .mem .table;
+        resident = withPage 0 (w .mem .resident);
+        slot = w .mem .slot;
+        touched = w .mem .touched;
+      }
+    unfolding advanced
+    advance-mem = ap (λ (u : World). u .mem) advance-keeps ∙ meta-mem P (w .files .db) (advanced v (w .mem)) w
+
+    pub advance-frames : 36 ≤ P → keeps P (Advance v) w .frames ≡ withFrame P (w .frames) (slotOf 0 (w .mem .resident)) (metaPage P (w .mem .next .0) (w .mem .time .0) (v .0))
+    unfolding advanced
+    advance-frames h = ap (λ (u : World). u .frames) advance-keeps ∙ meta-frames P (w .files .db) (advanced v (w .mem)) w h
+
+    pub advance-frames-size : length (keeps P (Advance v) w .frames) ≡ length (w .frames)
+    advance-frames-size = ap (λ (u : World). length (u .frames)) advance-keeps ∙ meta-frames-size P (w .files .db) (advanced v (w .mem)) w
+
+    -- 5, 8
+    pub advance-no : 36 ≤ P → w .files .log .len ≤ room (w .files .log) → length (w .mem .table) ≤ 256 → length (w .mem .touched) ≤ 64 → callNo P (Advance v) w ≡
+        cond (ltb (room (w .files .db)) P) 5 (cond (ltb (frameCount 64 P (length (w .frames))) (length (withPage 0 (w .mem .resident)))) 8 0)
+    unfolding argumentNo steps
+    advance-no h hl he ht =
+        call-chain P (Advance v) w advance-frames-size (length (w .mem .touched)) 0 P 0 (length (w .mem .table)) (length (withPage 0 (w .mem .resident)))
+        (ap (λ (m : Mem). length (m .touched)) advance-mem) (advance-log P v w above) (advance-db P v w above h) (advance-clog P v w above)
+        (ap (λ (m : Mem). length (m .table)) advance-mem) (ap (λ (m : Mem). length (m .resident)) advance-mem)
+        ∙ rw (
+          le-ltb 64 (length (w .mem .touched)) ht,
+          le-ltb (room (w .files .log)) (w .files .log .len + 0) (omega arith),
+          le-ltb (room (w .files .clog)) 0 (omega arith),
+          le-ltb 256 (length (w .mem .table)) he,
+        )
+
+    pub advance-files : done P (Advance v) w .files ≡ apply P (metaStep P (advanced v (w .mem))) (apply P (Compact (v .0)) (w .files))
+    unfolding done applyAll
+    advance-files = rw advance-steps
