@@ -4,18 +4,27 @@ use mathlib.Core.Path.{_≡_, refl, sym, ap, _∙_}
 use mathlib.Core.List.{List, [], _∷_, _++_}
 use mathlib.Core.Bool.{Bool, true, false, cond}
 use Prim.Native.Nat.{ℕ, zero, suc, _+_, _*_, _/_, _≤_, _<_, max}
+use native.Mathlib.Numerals.{add-one}
 use native.Mathlib.Omega.{arith}
-use borrow.Author.Tests.{lt-ltb, le-ltb}
-use lib.Dec.{ltb}
-use lib.ListN.{length}
+use borrow.Author.Tests.{ltb-false, lt-ltb, le-ltb}
+use lib.Dec.{ltb, lit<}
+use lib.ListN.{length, drop, getD, length-append}
+use lib.Seq.{drop-cons}
 use Rattle.fields.specs.declared.TransactionId.{TransactionId}
 use Rattle.fields.specs.Files.{File, room}
+use Rattle.fields.proofs.Tests.{Order, less, most, order, passed}
 use Rattle.wal.specs.Records.{image, begin, commit, abort, checkpoint}
 use Rattle.table.specs.declared.Status.the-variants.{Active, Committed, Aborted}
 use Rattle.table.specs.declared.Entry.{Entry}
-use Rattle.table.specs.Entries.{insertEntry}
+use Rattle.table.specs.declared.Table.{Table}
+use Rattle.table.specs.Entries.{listOf, insertEntry, bounded, inserted}
+use Rattle.table.proofs.Facts.{bounded-yes, bounded-no}
 use Rattle.meta.specs.Page.{metaPage}
-use Rattle.frames.specs.Pages.{isIn, slotOf, withPage, touch, badPage, anyBad, frameCount}
+use Rattle.frames.specs.declared.Frames.{Frames}
+use Rattle.frames.specs.declared.Touched.{Touched}
+use Rattle.frames.specs.Pages.{isIn, slotOf, withPage, touch, badPage, anyBad, residentOf, frameCount, seated, touchedOf, marked}
+use Rattle.frames.proofs.Lists.{with-old, with-new}
+use Rattle.frames.proofs.Values.{seat-old, seat-full, seat-new, mark-yes, mark-no}
 use Rattle.frames.specs.Copies.{withFrame}
 use Rattle.world.specs.declared.Slot.{Slot}
 use Rattle.world.specs.declared.Slot.the-variants.{Installed, Empty}
@@ -26,7 +35,7 @@ use Rattle.world.specs.Refusals.{orElse, argumentNo, roomNo, holdNo, cal
 use Rattle.world.specs.Run.{done}
 use Rattle.world.proofs.Laws.{apply-append}
 use Rattle.world.proofs.RoomLaws.{begin-log, begin-db, begin-clog, flush-log, flush-db, flush-clog, commit-log, commit-db, commit-clog, rollback-db, rollback-clog, advance-log, advance-db, advance-clog}
-use Rattle.world.proofs.FrameLaws.{catalog-resident, raised, refilled, refilled-size, revert-frames-size, revert-mem, revert-frames, meta-mem, meta-frames, meta-frames-size}
+use Rattle.world.proofs.FrameLaws.{drop-past, catalog-resident, raised, refilled, refilled-size, revert-frames-size, revert-mem, revert-frames, meta-mem, meta-frames, meta-frames-size}
 
 -- ---- a call's number as one chain
 
@@ -77,6 +86,96 @@ module _ (P : ℕ) (c : Call) (w : World) where
           le-ltb 256 (length (w .mem .table)) he,
           le-ltb (frameCount 64 P (length (w .frames))) (length (w .mem .resident)) hr,
         )
+
+-- ---- a number that is 0
+
+-- what the tests of a chain ask for
+pub record Fits (P : ℕ) (w : World) (touched log db clog entries resident : ℕ) : Type 0 where
+  pub touched-fit : touched ≤ 64
+  pub log-fits : w .files .log .len + log ≤ room (w .files .log)
+  pub db-fits : db ≤ room (w .files .db)
+  pub clog-fits : clog ≤ room (w .files .clog)
+  pub entries-fit : entries ≤ 256
+  pub resident-fit : resident ≤ frameCount 64 P (length (w .frames))
+
+module _ (P : ℕ) (w : World) (t l d g e r : ℕ) where
+  pub chain-fits : chainOf P w t l d g e r ≡ 0 → Fits P w t l d g e r
+  chain-fits h =
+      let a = passed (ltb 64 t) 11 _ (lit< tt) h in
+      let b = passed (ltb (room (w .files .log)) (w .files .log .len + l)) 4 _ (lit< tt) (a .1) in
+      let c = passed (ltb (room (w .files .db)) d) 5 _ (lit< tt) (b .1) in
+      let f = passed (ltb (room (w .files .clog)) g) 6 _ (lit< tt) (c .1) in
+      let i = passed (ltb 256 e) 7 _ (lit< tt) (f .1) in
+      let j = passed (ltb (frameCount 64 P (length (w .frames))) r) 8 0 (lit< tt) (i .1) in
+      record {
+        touched-fit = ltb-false 64 t (a .0);
+        log-fits = ltb-false (room (w .files .log)) (w .files .log .len + l) (b .0);
+        db-fits = ltb-false (room (w .files .db)) d (c .0);
+        clog-fits = ltb-false (room (w .files .clog)) g (f .0);
+        entries-fit = ltb-false 256 e (i .0);
+        resident-fit = ltb-false (frameCount 64 P (length (w .frames))) r (j .0);
+      }
+
+  pub fits-chain : Fits P w t l d g e r → chainOf P w t l d g e r ≡ 0
+  fits-chain f =
+      rw (
+        le-ltb 64 t (f .touched-fit),
+        le-ltb (room (w .files .log)) (w .files .log .len + l) (f .log-fits),
+        le-ltb (room (w .files .db)) d (f .db-fits),
+        le-ltb (room (w .files .clog)) g (f .clog-fits),
+        le-ltb 256 e (f .entries-fit),
+        le-ltb (frameCount 64 P (length (w .frames))) r (f .resident-fit),
+      )
+
+-- ---- the numbers of the parts of a store: 7, 8 and 11, as the chains have them
+
+pub inserted-number : (N : ℕ) (t : Table) (e : Entry) → inserted N t e .number ≡ cond (ltb N (length (insertEntry e (listOf t)))) 7 0
+unfolding inserted bounded
+inserted-number N t e = go (order N (length (insertEntry e (listOf t))))
+  where
+    go : Order N (length (insertEntry e (listOf t))) → bounded N t (insertEntry e (listOf t)) .number ≡ cond (ltb N (length (insertEntry e (listOf t)))) 7 0
+    go (less h) = rw (bounded-no N t (insertEntry e (listOf t)) h, lt-ltb N (length (insertEntry e (listOf t))) h)
+    go (most h) = rw (bounded-yes N t (insertEntry e (listOf t)) h, le-ltb N (length (insertEntry e (listOf t))) h)
+
+pub marked-number : (N : ℕ) (t : Touched) (p : ℕ) → marked N t p .number ≡ cond (ltb N (length (touch p (touchedOf t)))) 11 0
+marked-number N t p = go (order N (length (touch p (touchedOf t))))
+  where
+    go : Order N (length (touch p (touchedOf t))) → marked N t p .number ≡ cond (ltb N (length (touch p (touchedOf t)))) 11 0
+    go (less h) = rw (mark-no N t p h, lt-ltb N (length (touch p (touchedOf t))) h)
+    go (most h) = rw (mark-yes N t p h, le-ltb N (length (touch p (touchedOf t))) h)
+
+pub seated-number : (N P : ℕ) (f : Frames) (size p : ℕ) → length (residentOf f) ≤ frameCount N P size →
+    seated N P f size p .number ≡ cond (ltb (frameCount N P size) (length (withPage p (residentOf f)))) 8 0
+seated-number N P f size p few = go (isIn p (residentOf f)) refl (order (length (residentOf f)) (frameCount N P size))
+  where
+    go : (b : Bool) → isIn p (residentOf f) ≡ b → Order (length (residentOf f)) (frameCount N P size) →
+        seated N P f size p .number ≡ cond (ltb (frameCount N P size) (length (withPage p (residentOf f)))) 8 0
+    go true e o = rw (seat-old N P f size p e, with-old p (residentOf f) e, le-ltb (frameCount N P size) (length (residentOf f)) few)
+    go false e (less h) =
+        let k : length (residentOf f ++ (p ∷ [])) ≤ frameCount N P size = rw length-append (omega arith) in
+        rw (seat-new N P f size p e h, with-new p (residentOf f) e, le-ltb (frameCount N P size) (length (residentOf f ++ (p ∷ []))) k)
+    go false e (most h) =
+        let k : frameCount N P size < length (residentOf f ++ (p ∷ [])) = rw length-append (omega arith) in
+        rw (seat-full N P f size p e h, with-new p (residentOf f) e, lt-ltb (frameCount N P size) (length (residentOf f ++ (p ∷ []))) k)
+
+-- ---- pages logged and pages written, turn by turn: page i, and those after it
+
+module _ (P : ℕ) (w : World) (ps : List ℕ) (i : ℕ) (f : Files) where
+  pub images-turn : i < length ps → applyAll P (images P w (drop i ps)) f ≡ applyAll P (images P w (drop (i + 1) ps)) (apply P (Log (image (getD ps i 0) (heldPage P w (getD ps i 0)))) f)
+  unfolding applyAll images
+  images-turn h = rw (add-one, drop-cons ps i 0 h)
+
+  pub images-end : length ps ≤ i → applyAll P (images P w (drop i ps)) f ≡ f
+  unfolding applyAll images
+  images-end h = rw (drop-past i ps h)
+
+  pub writes-turn : i < length ps → applyAll P (writes P w (drop i ps)) f ≡ applyAll P (writes P w (drop (i + 1) ps)) (apply P (Page (getD ps i 0) (heldPage P w (getD ps i 0))) f)
+  unfolding applyAll writes
+  writes-turn h = rw (add-one, drop-cons ps i 0 h)
+
+  pub writes-end : length ps ≤ i → applyAll P (writes P w (drop i ps)) f ≡ f
+  unfolding applyAll writes
+  writes-end h = rw (drop-past i ps h)
 
 -- ---- begin
 
@@ -263,7 +362,57 @@ module _ (P : ℕ) (w : World) where
         (ap (λ (m : Mem). length (m .touched)) commit-mem) (ap (sumOf logBytes) commit-steps ∙ commit-log P w id) (ap (mostOf (dbEnd P)) commit-steps ∙ commit-db P w id h)
         (ap (mostOf clogEnd) commit-steps ∙ commit-clog P w id) (ap (λ (m : Mem). length (m .table)) commit-mem) (ap (λ (m : Mem). length (m .resident)) commit-mem)
 
+-- its stores, one after another
+pub commit-applied : (P : ℕ) (w : World) (id : TransactionId) (f : Files) → applyAll P (commitSteps P w (Installed id)) f ≡
+    apply P (metaStep P (committed id (w .mem)))
+    (apply P Truncate
+    (apply P (Log checkpoint)
+    (apply P (SetSlot (id .0) (Committed (w .mem .time)))
+    (applyAll P (writes P w (held (w .mem)))
+    (apply P (Log (commit (id .0) (w .mem .time .0)))
+    (applyAll P (images P w (held (w .mem))) f))))))
+unfolding commitSteps
+commit-applied P w id f = rw apply-append (unfold applyAll in rw apply-append)
+
+pub commit-files : (P : ℕ) (w : World) (id : TransactionId) → w .mem .slot ≡ Installed id → done P Commit w .files ≡ applyAll P (commitSteps P w (Installed id)) (w .files)
+unfolding done
+commit-files P w id inside = rw (commit-steps P w id inside)
+
 -- ---- rollback
+
+-- files, and the frames and memory of a world
+abbrev joined : Files → World → World
+joined f v = record { files = f; frames = v .frames; mem = v .mem }
+
+done-is : (P : ℕ) (c : Call) (w : World) → done P c w ≡ joined (done P c w .files) (keeps P c w)
+unfolding done
+done-is P c w = refl
+
+-- the stores before meta, one after another
+data-applied : (P : ℕ) (w : World) (ps : List ℕ) (f : Files) → 0 < length ps →
+    applyAll P (dataSteps P w ps) f ≡ apply P Truncate (apply P (Log checkpoint) (applyAll P (writes P w ps) (applyAll P (images P w ps) f)))
+unfolding dataSteps
+data-applied P w [] f h = absurd (omega arith)
+data-applied P w (p ∷ ps) f h = rw (apply-append, apply-append) (unfold applyAll in refl)
+
+module _ (P : ℕ) (list : List ℕ) (w : World) (id : TransactionId) (f : Files) where
+  pub back-applied-none : dataPages list (w .mem) ≡ [] → applyAll P (backSteps P list w id) f ≡ apply P (SetSlot (id .0) Aborted) (apply P (Log (abort (id .0))) f)
+  unfolding backSteps dataSteps applyAll
+  back-applied-none e = rw e
+
+  pub back-applied : 0 < length (dataPages list (w .mem)) → applyAll P (backSteps P list w id) f ≡
+      apply P Truncate
+      (apply P (Log checkpoint)
+      (applyAll P (writes P w (dataPages list (w .mem)))
+      (applyAll P (images P w (dataPages list (w .mem)))
+      (apply P (SetSlot (id .0) Aborted) (apply P (Log (abort (id .0))) f)))))
+  unfolding backSteps
+  back-applied h = unfold applyAll in data-applied P w (dataPages list (w .mem)) (apply P (SetSlot (id .0) Aborted) (apply P (Log (abort (id .0))) f)) h
+
+  -- and meta last
+  pub rollback-applied : applyAll P (rollbackSteps P list w (Installed id)) f ≡ apply P (metaStep P (rolledBack id (w .mem))) (applyAll P (backSteps P list w id) f)
+  unfolding rollbackSteps
+  rollback-applied = rw apply-append (unfold applyAll in refl)
 
 module _ (P : ℕ) (list : List ℕ) (w : World) where
   -- with no transaction: 10
@@ -360,6 +509,26 @@ module _ (P : ℕ) (list : List ℕ) (w : World) where
           (ap (λ (m : Mem). length (m .touched)) rollback-mem) (ap (sumOf logBytes) rollback-steps) (ap (mostOf (dbEnd P)) rollback-steps ∙ rollback-db P list w id h)
           (ap (mostOf clogEnd) rollback-steps ∙ rollback-clog P list w id) (ap (λ (m : Mem). length (m .table)) rollback-mem) (ap (λ (m : Mem). length (m .resident)) rollback-mem)
           ∙ ten-first (anyBad list) _
+
+      -- all stores but the last, the revert, then the last: this is the call
+      pub rollback-files : done P (Rollback list) w .files ≡ apply P (metaStep P (rolledBack id (w .mem))) backFiles
+      unfolding done
+      rollback-files = rw rollback-steps (rollback-applied P list w id (w .files))
+
+      -- meta is the same before and after the revert
+      pub rollback-meta : metaStep P (rolledBack id (reverted .mem)) ≡ metaStep P (rolledBack id (w .mem))
+      unfolding rolledBack
+      rollback-meta = ap (λ (m : Mem). metaStep P m) reverted-mem
+
+      pub rollback-done : done P (Rollback list) w ≡ record {
+          files = apply P (metaStep P (rolledBack id (reverted .mem))) backFiles;
+          frames = metaWritten P (backFiles .db) (rolledBack id (reverted .mem)) reverted .frames;
+          mem = metaWritten P (backFiles .db) (rolledBack id (reverted .mem)) reverted .mem;
+        }
+      rollback-done =
+          done-is P (Rollback list) w ∙ ap (λ (v : World). joined (done P (Rollback list) w .files) v) rollback-keeps
+          ∙ ap (λ (g : Files). joined g (metaWritten P (backFiles .db) (rolledBack id (reverted .mem)) reverted)) rollback-files
+          ∙ ap (λ (s : Step). joined (apply P s backFiles) (metaWritten P (backFiles .db) (rolledBack id (reverted .mem)) reverted)) (sym rollback-meta)
 
 -- ---- the mark
 

@@ -4,12 +4,13 @@ use mathlib.Core.Path.{_≡_, refl, sym, ap, _∙_}
 use mathlib.Core.List.{List, [], _∷_, _++_}
 use mathlib.Core.Bool.{Bool, true, false, cond, not, _||_}
 use Prim.Native.Nat.{ℕ, zero, suc, _+_, _-_, _*_, _≤_, _<_, max}
-use native.Mathlib.Nat.{add-zero}
+use native.Mathlib.Nat.{le-of-suc-le-suc}
+use native.Mathlib.Numerals.{add-one}
 use native.Mathlib.Omega.{arith}
 use borrow.Author.Tests.{eq-eqb, eqb-true}
 use lib.Dec.{eqb}
 use lib.ListN.{length, take, drop, getD}
-use lib.Seq.{sets, length-sets, ext-getD, take-length}
+use lib.Seq.{sets, length-sets, ext-getD, take-length, drop-cons}
 use Rattle.fields.specs.Bytes.{part}
 use Rattle.fields.specs.Files.{File}
 use Rattle.fields.proofs.Tests.{Order, less, most, order}
@@ -190,6 +191,15 @@ write-any P db other p bytes w = write-frames P db p bytes w ∙ sym (write-fram
 
 -- ---- pages get the file's bytes back
 
+pub drop-past : {A : Type 0} (i : ℕ) (l : List A) → length l ≤ i → drop i l ≡ []
+drop-past zero [] h = refl
+drop-past (suc i) [] h = refl
+drop-past zero (x ∷ l) h = absurd (omega arith)
+drop-past (suc i) (x ∷ l) h = drop-past i l (le-of-suc-le-suc h)
+
+larger : (n a b : ℕ) → max (max n a) b ≡ max n (max (max 0 a) b)
+larger n a b = omega arith
+
 -- a page count raised past each of the pages
 unfoldable pub raised : ℕ → List ℕ → ℕ
 raised n [] = n
@@ -205,6 +215,33 @@ unfolding refilled
 refilled-size P db resident [] frames = refl
 refilled-size P db resident (p ∷ ps) frames =
     refilled-size P db resident ps (withFrame P frames (slotOf p resident) (pageOf P db p)) ∙ length-with P frames (slotOf p resident) (pageOf P db p)
+
+-- turn by turn: page i, and those after it
+pub refilled-turn : (P : ℕ) (db : File) (resident ps : List ℕ) (i : ℕ) (frames : List ℕ) → i < length ps →
+    refilled P db resident (drop i ps) frames ≡ refilled P db resident (drop (i + 1) ps) (withFrame P frames (slotOf (getD ps i 0) resident) (pageOf P db (getD ps i 0)))
+unfolding refilled
+refilled-turn P db resident ps i frames h = rw (add-one, drop-cons ps i 0 h)
+
+pub refilled-end : (P : ℕ) (db : File) (resident ps : List ℕ) (i : ℕ) (frames : List ℕ) → length ps ≤ i → refilled P db resident (drop i ps) frames ≡ frames
+unfolding refilled
+refilled-end P db resident ps i frames h = rw (drop-past i ps h)
+
+pub raised-turn : (n : ℕ) (ps : List ℕ) (i : ℕ) → i < length ps → raised n (drop i ps) ≡ raised (max n (getD ps i 0 + 1)) (drop (i + 1) ps)
+unfolding raised
+raised-turn n ps i h = rw (add-one i, drop-cons ps i 0 h)
+
+pub raised-end : (n : ℕ) (ps : List ℕ) (i : ℕ) → length ps ≤ i → raised n (drop i ps) ≡ n
+unfolding raised
+raised-end n ps i h = rw (drop-past i ps h)
+
+-- the larger of the count and what the pages alone ask for
+pub raised-max : (n : ℕ) (ps : List ℕ) → raised n ps ≡ max n (raised 0 ps)
+unfolding raised
+raised-max n [] = omega arith
+raised-max n (p ∷ ps) =
+    let a : raised (max n (p + 1)) ps ≡ max (max n (p + 1)) (raised 0 ps) = raised-max (max n (p + 1)) ps in
+    let b : raised (max 0 (p + 1)) ps ≡ max (max 0 (p + 1)) (raised 0 ps) = raised-max (max 0 (p + 1)) ps in
+    a ∙ larger n (p + 1) (raised 0 ps) ∙ ap (max n) (sym b)
 
 -- a revert is a write of the first page, then of the rest
 pub revert-none : (P : ℕ) (db : File) (w : World) → revert P db [] w ≡ w

@@ -5,9 +5,11 @@ use mathlib.Core.List.{List, [], _∷_, _++_}
 use mathlib.Core.Bool.{Bool, true, false, cond}
 use Prim.Native.Nat.{ℕ, zero, suc, _+_, _*_, _/_, _≤_, _<_, max}
 use native.Mathlib.Nat.{suc-mul, zero-mul, zero-max}
+use native.Mathlib.Numerals.{add-one}
 use native.Mathlib.Omega.{arith}
 use borrow.Author.Tests.{lt-ltb}
-use lib.ListN.{length, length-append}
+use lib.ListN.{length, drop, getD, length-append}
+use lib.Seq.{drop-cons}
 use Rattle.fields.specs.declared.TransactionId.{TransactionId}
 use Rattle.fields.proofs.ByteLaws.{length-bytesOf, length-part}
 use Rattle.wal.specs.Records.{Record, image, begin, commit, abort, checkpoint, encode}
@@ -93,6 +95,11 @@ module _ (P : ℕ) (w : World) where
   pub writes-db : (p : ℕ) (ps : List ℕ) → mostOf (dbEnd P) (writes P w (p ∷ ps)) ≡ max (p * P + P) (mostOf (dbEnd P) (writes P w ps))
   unfolding writes mostOf
   writes-db p ps = rw (heldPage-length P w p)
+
+-- turn by turn: page i, and those after it
+pub writes-db-turn : (P : ℕ) (w : World) (ps : List ℕ) (i : ℕ) → i < length ps →
+    mostOf (dbEnd P) (writes P w (drop i ps)) ≡ max (getD ps i 0 * P + P) (mostOf (dbEnd P) (writes P w (drop (i + 1) ps)))
+writes-db-turn P w ps i h = rw (add-one, drop-cons ps i 0 h) (writes-db P w (getD ps i 0) (drop (suc i) ps))
 
 -- it depends on the pages alone
 pub writes-db-same : (P : ℕ) (v w : World) (ps : List ℕ) → mostOf (dbEnd P) (writes P v ps) ≡ mostOf (dbEnd P) (writes P w ps)
