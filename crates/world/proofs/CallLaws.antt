@@ -127,6 +127,19 @@ module _ (P : ℕ) (w : World) (t l d g e r : ℕ) where
         le-ltb (frameCount 64 P (length (w .frames))) r (f .resident-fit),
       )
 
+or-zero : (a b : ℕ) → orElse a b ≡ 0 → (a ≡ 0) × (b ≡ 0)
+or-zero zero b h = (refl, h)
+or-zero (suc a) b h = absurd (omega arith)
+
+-- an accepted call: its arguments are good, and all that it needs fits
+pub call-good : (P : ℕ) (c : Call) (w : World) → callNo P c w ≡ 0 → argumentNo c w ≡ 0
+unfolding callNo
+call-good P c w h = or-zero (argumentNo c w) _ h .0
+
+pub call-fits : (P : ℕ) (c : Call) (w : World) → length (keeps P c w .frames) ≡ length (w .frames) → callNo P c w ≡ 0 →
+    Fits P w (length (keeps P c w .mem .touched)) (sumOf logBytes (steps P c w)) (mostOf (dbEnd P) (steps P c w)) (mostOf clogEnd (steps P c w)) (length (keeps P c w .mem .table)) (length (keeps P c w .mem .resident))
+call-fits P c w same h = chain-fits P w _ _ _ _ _ _ (or-zero (argumentNo c w) _ (sym (call-no P c w same) ∙ h) .1)
+
 -- ---- the numbers of the parts of a store: 7, 8 and 11, as the chains have them
 
 pub inserted-number : (N : ℕ) (t : Table) (e : Entry) → inserted N t e .number ≡ cond (ltb N (length (insertEntry e (listOf t)))) 7 0

@@ -11,16 +11,20 @@ use borrow.Author.Tests.{lt-ltb}
 use lib.ListN.{length, drop, getD, length-append}
 use lib.Seq.{drop-cons}
 use Rattle.fields.specs.declared.TransactionId.{TransactionId}
+use Rattle.fields.specs.Files.{File, room}
+use Rattle.fields.proofs.FileLaws.{lay-room, lay-len, append-is, header-room}
 use Rattle.fields.proofs.ByteLaws.{length-bytesOf, length-part}
-use Rattle.wal.specs.Records.{Record, image, begin, commit, abort, checkpoint, encode}
+use Rattle.wal.specs.Records.{Record, image, begin, commit, abort, checkpoint, encode, logMagic}
 use Rattle.wal.proofs.WriteLaws.{commit-size, page-size}
+use Rattle.clog.specs.Slots.{codeOf}
+use Rattle.clog.proofs.SlotLaws.{record-room, compact-room}
 use Rattle.meta.specs.Page.{metaPage}
 use Rattle.meta.proofs.Laws.{length-meta}
 use Rattle.frames.specs.Pages.{isIn, slotOf}
 use Rattle.frames.specs.Copies.{frameOf}
 use Rattle.world.specs.declared.Slot.the-variants.{Installed, Empty}
-use Rattle.world.specs.World.{Mem, World}
-use Rattle.world.specs.Steps.{Step, Log, Page, SetSlot, Compact, Truncate, logBytes, dbEnd, clogEnd, sumOf, mostOf}
+use Rattle.world.specs.World.{Files, Mem, World}
+use Rattle.world.specs.Steps.{Step, Log, Page, SetSlot, Compact, Truncate, apply, applyAll, logBytes, dbEnd, clogEnd, sumOf, mostOf}
 use Rattle.world.specs.Calls.{Begin, heldPage, held, dataPages, images, writes, metaStep, committed, rolledBack, advanced, flushSteps, commitSteps, dataSteps, backSteps, rollbackSteps, advanceSteps, steps}
 
 -- ---- lists of stores
@@ -211,3 +215,88 @@ module _ (P : ℕ) (v : TransactionId) (w : World) (above : w .mem .mark .0 < v 
   pub advance-clog : mostOf clogEnd (advanceSteps P v w) ≡ 0
   unfolding advanceSteps mostOf
   advance-clog = rw (lt-ltb (w .mem .mark .0) (v .0) above)
+
+-- ---- files after stores: buffers keep their size, and lengths grow by what is stored
+
+module _ (P : ℕ) where
+  pub apply-room-log : (s : Step) (f : Files) → room (apply P s f .log) ≡ room (f .log)
+  unfolding apply
+  apply-room-log (Log r) f = lay-room (f .log) (f .log .len) (encode r)
+  apply-room-log (Page p bytes) f = refl
+  apply-room-log (SetSlot id s) f = refl
+  apply-room-log (Compact w) f = refl
+  apply-room-log Truncate f = header-room logMagic (f .log)
+
+  pub apply-room-db : (s : Step) (f : Files) → room (apply P s f .db) ≡ room (f .db)
+  unfolding apply
+  apply-room-db (Log r) f = refl
+  apply-room-db (Page p bytes) f = lay-room (f .db) (p * P) bytes
+  apply-room-db (SetSlot id s) f = refl
+  apply-room-db (Compact w) f = refl
+  apply-room-db Truncate f = refl
+
+  pub apply-room-clog : (s : Step) (f : Files) → room (apply P s f .clog) ≡ room (f .clog)
+  unfolding apply
+  apply-room-clog (Log r) f = refl
+  apply-room-clog (Page p bytes) f = refl
+  apply-room-clog (SetSlot id s) f = record-room 8 id (codeOf s) (f .clog)
+  apply-room-clog (Compact w) f = compact-room 8 w (f .clog)
+  apply-room-clog Truncate f = refl
+
+  pub all-room-log : (ss : List Step) (f : Files) → room (applyAll P ss f .log) ≡ room (f .log)
+  unfolding applyAll
+  all-room-log [] f = refl
+  all-room-log (s ∷ ss) f = all-room-log ss (apply P s f) ∙ apply-room-log s f
+
+  pub all-room-db : (ss : List Step) (f : Files) → room (applyAll P ss f .db) ≡ room (f .db)
+  unfolding applyAll
+  all-room-db [] f = refl
+  all-room-db (s ∷ ss) f = all-room-db ss (apply P s f) ∙ apply-room-db s f
+
+  pub all-room-clog : (ss : List Step) (f : Files) → room (applyAll P ss f .clog) ≡ room (f .clog)
+  unfolding applyAll
+  all-room-clog [] f = refl
+  all-room-clog (s ∷ ss) f = all-room-clog ss (apply P s f) ∙ apply-room-clog s f
+
+max-three : (a b c : ℕ) → max (max a b) c ≡ max a (max b c)
+max-three a b c = omega arith
+
+-- pages logged change the log alone, pages written the database alone
+module _ (P : ℕ) (w : World) where
+  pub images-db-same : (ps : List ℕ) (f : Files) → applyAll P (images P w ps) f .db ≡ f .db
+  unfolding applyAll images apply
+  images-db-same [] f = refl
+  images-db-same (p ∷ ps) f = images-db-same ps (apply P (Log (image p (heldPage P w p))) f)
+
+  pub images-clog-same : (ps : List ℕ) (f : Files) → applyAll P (images P w ps) f .clog ≡ f .clog
+  unfolding applyAll images apply
+  images-clog-same [] f = refl
+  images-clog-same (p ∷ ps) f = images-clog-same ps (apply P (Log (image p (heldPage P w p))) f)
+
+  pub images-log-len : (ps : List ℕ) (f : Files) → applyAll P (images P w ps) f .log .len ≡ f .log .len + length ps * (5 + P)
+  unfolding applyAll images apply
+  images-log-len [] f = omega (arith, zero-mul (5 + P))
+  images-log-len (p ∷ ps) f =
+      let g = apply P (Log (image p (heldPage P w p))) f in
+      let e : g .log .len ≡ f .log .len + (5 + P) = ap (λ (h : File). h .len) (append-is (f .log) (encode (image p (heldPage P w p)))) ∙ rw (image-bytes P w p) in
+      let ih : applyAll P (images P w ps) g .log .len ≡ g .log .len + length ps * (5 + P) = images-log-len ps g in
+      omega (arith, suc-mul (length ps) (5 + P))
+
+  pub writes-log-same : (ps : List ℕ) (f : Files) → applyAll P (writes P w ps) f .log ≡ f .log
+  unfolding applyAll writes apply
+  writes-log-same [] f = refl
+  writes-log-same (p ∷ ps) f = writes-log-same ps (apply P (Page p (heldPage P w p)) f)
+
+  pub writes-clog-same : (ps : List ℕ) (f : Files) → applyAll P (writes P w ps) f .clog ≡ f .clog
+  unfolding applyAll writes apply
+  writes-clog-same [] f = refl
+  writes-clog-same (p ∷ ps) f = writes-clog-same ps (apply P (Page p (heldPage P w p)) f)
+
+  pub writes-db-len : (ps : List ℕ) (f : Files) → applyAll P (writes P w ps) f .db .len ≡ max (f .db .len) (mostOf (dbEnd P) (writes P w ps))
+  unfolding applyAll apply writes
+  writes-db-len [] f = rw (writes-db-none P w) (omega arith)
+  writes-db-len (p ∷ ps) f =
+      let g = apply P (Page p (heldPage P w p)) f in
+      let e : g .db .len ≡ max (f .db .len) (p * P + P) = lay-len (f .db) (p * P) (heldPage P w p) ∙ rw (heldPage-length P w p) in
+      let ih : applyAll P (writes P w ps) g .db .len ≡ max (g .db .len) (mostOf (dbEnd P) (writes P w ps)) = writes-db-len ps g in
+      ih ∙ ap (λ (n : ℕ). max n (mostOf (dbEnd P) (writes P w ps))) e ∙ max-three (f .db .len) (p * P + P) (mostOf (dbEnd P) (writes P w ps)) ∙ ap (max (f .db .len)) (sym (writes-db P w p ps))
