@@ -11,7 +11,7 @@ use lib.Dec.{ltb, lit<}
 use lib.ListN.{length, drop, getD, length-append}
 use lib.Seq.{drop-cons}
 use Rattle.fields.specs.declared.TransactionId.{TransactionId}
-use Rattle.fields.specs.Files.{File, room}
+use Rattle.fields.specs.Files.{room}
 use Rattle.fields.proofs.Tests.{Order, less, most, order, passed}
 use Rattle.wal.specs.Records.{image, begin, commit, abort, checkpoint}
 use Rattle.table.specs.declared.Status.the-variants.{Active, Committed, Aborted}
@@ -26,16 +26,15 @@ use Rattle.frames.specs.Pages.{isIn, slotOf, withPage, touch, badPage, anyBad, 
 use Rattle.frames.proofs.Lists.{with-old, with-new}
 use Rattle.frames.proofs.Values.{seat-old, seat-full, seat-new, mark-yes, mark-no}
 use Rattle.frames.specs.Copies.{withFrame}
-use Rattle.world.specs.declared.Slot.{Slot}
 use Rattle.world.specs.declared.Slot.the-variants.{Installed, Empty}
-use Rattle.world.specs.World.{Files, Mem, World, withMem, withCounts}
+use Rattle.world.specs.World.{Files, Mem, World, withCounts}
 use Rattle.world.specs.Steps.{Step, Log, Page, SetSlot, Compact, Truncate, apply, applyAll, logBytes, dbEnd, clogEnd, sumOf, mostOf}
 use Rattle.world.specs.Calls.{Call, Begin, Flush, Commit, Rollback, Advance, heldPage, revert, held, catalogPages, dataPages, nextTime, committed, rolledBack, advanced, metaStep, images, writes, flushSteps, commitSteps, dataSteps, backSteps, rollbackSteps, advanceSteps, steps, metaWritten, flushKeeps, commitKeeps, rollbackKeeps, advanceKeeps, keeps}
 use Rattle.world.specs.Refusals.{orElse, argumentNo, roomNo, holdNo, callNo}
 use Rattle.world.specs.Run.{done}
 use Rattle.world.proofs.Laws.{apply-append}
 use Rattle.world.proofs.RoomLaws.{begin-log, begin-db, begin-clog, flush-log, flush-db, flush-clog, commit-log, commit-db, commit-clog, rollback-db, rollback-clog, advance-log, advance-db, advance-clog}
-use Rattle.world.proofs.FrameLaws.{drop-past, catalog-resident, raised, refilled, refilled-size, revert-frames-size, revert-mem, revert-frames, meta-mem, meta-frames, meta-frames-size}
+use Rattle.world.proofs.FrameLaws.{drop-past, catalog-resident, raised, refilled, revert-frames-size, revert-mem, revert-frames, meta-mem, meta-frames, meta-frames-size}
 
 -- ---- a call's number as one chain
 
@@ -194,15 +193,15 @@ module _ (P : ℕ) (w : World) (ps : List ℕ) (i : ℕ) (f : Files) where
 
 module _ (P : ℕ) (id : TransactionId) (w : World) where
   pub begin-mem : keeps P (Begin id) w .mem ≡ record {
-      pages = w .mem .pages;
-      next = w .mem .next;
-      time = w .mem .time;
-      mark = w .mem .mark;
-      table = insertEntry (record { id = id; status = Active }) (w .mem .table);
-      resident = w .mem .resident;
-      slot = Installed id;
-      touched = [];
-    }
+    pages = w .mem .pages;
+    next = w .mem .next;
+    time = w .mem .time;
+    mark = w .mem .mark;
+    table = insertEntry (record { id = id; status = Active }) (w .mem .table);
+    resident = w .mem .resident;
+    slot = Installed id;
+    touched = [];
+  }
   unfolding keeps
   begin-mem = refl
 
@@ -235,15 +234,15 @@ module _ (P p : ℕ) (w : World) where
     flush-steps-in = rw inside
 
     pub flush-mem-in : keeps P (Flush p) w .mem ≡ record {
-        pages = w .mem .pages;
-        next = w .mem .next;
-        time = w .mem .time;
-        mark = w .mem .mark;
-        table = w .mem .table;
-        resident = w .mem .resident;
-        slot = Installed id;
-        touched = touch p (w .mem .touched);
-      }
+      pages = w .mem .pages;
+      next = w .mem .next;
+      time = w .mem .time;
+      mark = w .mem .mark;
+      table = w .mem .table;
+      resident = w .mem .resident;
+      slot = Installed id;
+      touched = touch p (w .mem .touched);
+    }
     unfolding keeps flushKeeps
     flush-mem-in = rw inside
 
@@ -342,15 +341,15 @@ module _ (P : ℕ) (w : World) where
     commit-keeps = rw inside
 
     pub commit-mem : keeps P Commit w .mem ≡ record {
-        pages = max (w .mem .pages) 1;
-        next = w .mem .next;
-        time = nextTime (w .mem .time);
-        mark = w .mem .mark;
-        table = insertEntry (record { id = id; status = Committed (w .mem .time) }) (w .mem .table);
-        resident = withPage 0 (w .mem .resident);
-        slot = Empty;
-        touched = [];
-      }
+      pages = max (w .mem .pages) 1;
+      next = w .mem .next;
+      time = nextTime (w .mem .time);
+      mark = w .mem .mark;
+      table = insertEntry (record { id = id; status = Committed (w .mem .time) }) (w .mem .table);
+      resident = withPage 0 (w .mem .resident);
+      slot = Empty;
+      touched = [];
+    }
     unfolding committed
     commit-mem = ap (λ (v : World). v .mem) commit-keeps ∙ meta-mem P (w .files .db) (committed id (w .mem)) w
 
@@ -471,15 +470,15 @@ module _ (P : ℕ) (list : List ℕ) (w : World) where
       rollback-keeps = rw inside
 
       pub rollback-mem : keeps P (Rollback list) w .mem ≡ record {
-          pages = max (raised (w .mem .pages) (catalogPages list (w .mem))) 1;
-          next = w .mem .next;
-          time = w .mem .time;
-          mark = w .mem .mark;
-          table = insertEntry (record { id = id; status = Aborted }) (w .mem .table);
-          resident = withPage 0 (w .mem .resident);
-          slot = Empty;
-          touched = [];
-        }
+        pages = max (raised (w .mem .pages) (catalogPages list (w .mem))) 1;
+        next = w .mem .next;
+        time = w .mem .time;
+        mark = w .mem .mark;
+        table = insertEntry (record { id = id; status = Aborted }) (w .mem .table);
+        resident = withPage 0 (w .mem .resident);
+        slot = Empty;
+        touched = [];
+      }
       unfolding rolledBack
       rollback-mem =
           ap (λ (v : World). v .mem) rollback-keeps ∙ meta-mem P (backFiles .db) (rolledBack id (reverted .mem)) reverted
@@ -534,10 +533,10 @@ module _ (P : ℕ) (list : List ℕ) (w : World) where
       rollback-meta = ap (λ (m : Mem). metaStep P m) reverted-mem
 
       pub rollback-done : done P (Rollback list) w ≡ record {
-          files = apply P (metaStep P (rolledBack id (reverted .mem))) backFiles;
-          frames = metaWritten P (backFiles .db) (rolledBack id (reverted .mem)) reverted .frames;
-          mem = metaWritten P (backFiles .db) (rolledBack id (reverted .mem)) reverted .mem;
-        }
+        files = apply P (metaStep P (rolledBack id (reverted .mem))) backFiles;
+        frames = metaWritten P (backFiles .db) (rolledBack id (reverted .mem)) reverted .frames;
+        mem = metaWritten P (backFiles .db) (rolledBack id (reverted .mem)) reverted .mem;
+      }
       rollback-done =
           done-is P (Rollback list) w ∙ ap (λ (v : World). joined (done P (Rollback list) w .files) v) rollback-keeps
           ∙ ap (λ (g : Files). joined g (metaWritten P (backFiles .db) (rolledBack id (reverted .mem)) reverted)) rollback-files
@@ -575,15 +574,15 @@ module _ (P : ℕ) (v : TransactionId) (w : World) where
     advance-keeps = rw (lt-ltb (w .mem .mark .0) (v .0) above)
 
     pub advance-mem : keeps P (Advance v) w .mem ≡ record {
-        pages = max (w .mem .pages) 1;
-        next = w .mem .next;
-        time = w .mem .time;
-        mark = v;
-        table = w .mem .table;
-        resident = withPage 0 (w .mem .resident);
-        slot = w .mem .slot;
-        touched = w .mem .touched;
-      }
+      pages = max (w .mem .pages) 1;
+      next = w .mem .next;
+      time = w .mem .time;
+      mark = v;
+      table = w .mem .table;
+      resident = withPage 0 (w .mem .resident);
+      slot = w .mem .slot;
+      touched = w .mem .touched;
+    }
     unfolding advanced
     advance-mem = ap (λ (u : World). u .mem) advance-keeps ∙ meta-mem P (w .files .db) (advanced v (w .mem)) w
 

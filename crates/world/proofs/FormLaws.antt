@@ -1,12 +1,12 @@
 -- A store in form: what every call tests first, said in numbers. Assumes nothing.
 use mathlib.Core.Path.{_≡_, refl}
 use mathlib.Core.List.{List, [], _∷_}
-use mathlib.Core.Bool.{Bool, true, false, cond, not, _||_}
+use mathlib.Core.Bool.{Bool, true, false, not}
 use Prim.Native.Nat.{ℕ, zero, suc, _≤_}
 use borrow.Author.Tests.{ltb-false, le-ltb, not-false}
 use lib.Dec.{ltb, lit<}
 use lib.ListN.{length, getD}
-use Rattle.fields.specs.Files.{File, room, unfit}
+use Rattle.fields.specs.Files.{room, unfit}
 use Rattle.fields.proofs.FileLaws.{fit-means}
 use Rattle.fields.proofs.Tests.{passed}
 use Rattle.table.specs.declared.Entry.{Entry}
@@ -14,7 +14,7 @@ use Rattle.table.specs.Entries.{ascending}
 use Rattle.frames.specs.Pages as pages
 use Rattle.frames.specs.Pages.{distinct, anyBad, frameCount}
 use Rattle.frames.proofs.Lists.{neither}
-use Rattle.world.specs.World.{Files, Mem, World}
+use Rattle.world.specs.World.{World}
 use Rattle.world.specs.Refusals.{anyOf, badBuffers, badTable, badTouched, badFrames, badStore, frontNo}
 
 pub record InForm (P : ℕ) (w : World) : Type 0 where

@@ -3,13 +3,13 @@
 use mathlib.Core.Path.{_≡_, refl, sym, ap, _∙_}
 use mathlib.Core.List.{List, [], _∷_, _++_}
 use mathlib.Core.Bool.{Bool, true, false, cond, not, _||_}
-use Prim.Native.Nat.{ℕ, zero, suc, _+_, _-_, _*_, _≤_, _<_, max}
+use Prim.Native.Nat.{ℕ, zero, suc, _+_, _*_, _≤_, _<_, max}
 use native.Mathlib.Nat.{le-of-suc-le-suc}
 use native.Mathlib.Numerals.{add-one}
 use native.Mathlib.Omega.{arith}
 use borrow.Author.Tests.{eq-eqb, eqb-true}
 use lib.Dec.{eqb}
-use lib.ListN.{length, take, drop, getD}
+use lib.ListN.{length, drop, getD}
 use lib.Seq.{sets, length-sets, ext-getD, take-length, drop-cons}
 use Rattle.fields.specs.Bytes.{part}
 use Rattle.fields.specs.Files.{File}
@@ -22,7 +22,7 @@ use Rattle.frames.specs.Pages.{isIn, slotOf, withPage}
 use Rattle.frames.specs.Copies.{pageOf, withFrame}
 use Rattle.frames.proofs.Lists.{clash, slot-absent, with-old, with-slot}
 use Rattle.frames.proofs.CopyLaws.{length-page, length-with}
-use Rattle.world.specs.World.{Files, Mem, World, withMem, withCounts, withResident}
+use Rattle.world.specs.World.{Mem, World, withMem, withCounts, withResident}
 use Rattle.world.specs.Calls.{seat, write, revert, keep, held, isCatalog, catalogPages, dataPages, metaWritten}
 
 -- ---- stored twice at a place
