@@ -209,16 +209,21 @@ module _ (P : ℕ) (id : TransactionId) (w : World) where
   unfolding keeps
   begin-frames = refl
 
+  begin-chain : callNo P (Begin id) w ≡ chainOf P w 0 9 0 (8 + id .0 / 4 + 1) (length (insertEntry (record { id = id; status = Active }) (w .mem .table))) (length (w .mem .resident))
+  unfolding keeps argumentNo
+  begin-chain =
+      call-chain P (Begin id) w refl 0 9 0 (8 + id .0 / 4 + 1) (length (insertEntry (record { id = id; status = Active }) (w .mem .table))) (length (w .mem .resident))
+      refl (begin-log P id w) (begin-db P id w) (begin-clog P id w) refl refl
+
   -- 4, 6, 7
   pub begin-no : length (w .mem .resident) ≤ frameCount 64 P (length (w .frames)) → callNo P (Begin id) w ≡
       cond (ltb (room (w .files .log)) (w .files .log .len + 9)) 4
       (cond (ltb (room (w .files .clog)) (8 + id .0 / 4 + 1)) 6
       (cond (ltb 256 (length (insertEntry (record { id = id; status = Active }) (w .mem .table)))) 7 0))
-  unfolding keeps argumentNo
-  begin-no few =
-      call-chain P (Begin id) w refl 0 9 0 (8 + id .0 / 4 + 1) (length (insertEntry (record { id = id; status = Active }) (w .mem .table))) (length (w .mem .resident))
-      refl (begin-log P id w) (begin-db P id w) (begin-clog P id w) refl refl
-      ∙ rw (le-ltb (room (w .files .db)) 0 (omega arith), le-ltb (frameCount 64 P (length (w .frames))) (length (w .mem .resident)) few)
+  begin-no few = begin-chain ∙ rw (le-ltb (room (w .files .db)) 0 (omega arith), le-ltb (frameCount 64 P (length (w .frames))) (length (w .mem .resident)) few)
+
+  pub begin-fits : callNo P (Begin id) w ≡ 0 → Fits P w 0 9 0 (8 + id .0 / 4 + 1) (length (insertEntry (record { id = id; status = Active }) (w .mem .table))) (length (w .mem .resident))
+  begin-fits h = chain-fits P w _ _ _ _ _ _ (sym begin-chain ∙ h)
 
   pub begin-files : done P (Begin id) w .files ≡ apply P (SetSlot (id .0) Active) (apply P (Log (begin (id .0))) (w .files))
   unfolding done steps applyAll
@@ -294,13 +299,17 @@ module _ (P p : ℕ) (w : World) where
       unfolding steps
       flush-same = rw outside
 
-      pub flush-no-out : length (w .mem .table) ≤ 256 → length (w .mem .touched) ≤ 64 → length (w .mem .resident) ≤ frameCount 64 P (length (w .frames)) →
-          callNo P (Flush p) w ≡ cond (badPage p) 10 (cond (ltb (room (w .files .log)) (w .files .log .len + (5 + P))) 4 (cond (ltb (room (w .files .db)) (p * P + P)) 5 0))
+      flush-chain : callNo P (Flush p) w ≡ orElse (cond (badPage p) 10 0) (chainOf P w (length (w .mem .touched)) (5 + P) (p * P + P) 0 (length (w .mem .table)) (length (w .mem .resident)))
       unfolding argumentNo
-      flush-no-out he ht hr =
+      flush-chain =
           call-chain P (Flush p) w (ap (λ (v : World). length (v .frames)) flush-keeps-out) (length (w .mem .touched)) (5 + P) (p * P + P) 0 (length (w .mem .table)) (length (w .mem .resident))
           (ap (λ (v : World). length (v .mem .touched)) flush-keeps-out) (ap (sumOf logBytes) flush-same ∙ flush-log P p w there) (ap (mostOf (dbEnd P)) flush-same ∙ flush-db P p w there)
           (ap (mostOf clogEnd) flush-same ∙ flush-clog P p w there) (ap (λ (v : World). length (v .mem .table)) flush-keeps-out) (ap (λ (v : World). length (v .mem .resident)) flush-keeps-out)
+
+      pub flush-no-out : length (w .mem .table) ≤ 256 → length (w .mem .touched) ≤ 64 → length (w .mem .resident) ≤ frameCount 64 P (length (w .frames)) →
+          callNo P (Flush p) w ≡ cond (badPage p) 10 (cond (ltb (room (w .files .log)) (w .files .log .len + (5 + P))) 4 (cond (ltb (room (w .files .db)) (p * P + P)) 5 0))
+      flush-no-out he ht hr =
+          flush-chain
           ∙ rw (
             le-ltb 64 (length (w .mem .touched)) ht,
             le-ltb (room (w .files .clog)) 0 (omega arith),
@@ -308,6 +317,9 @@ module _ (P p : ℕ) (w : World) where
             le-ltb (frameCount 64 P (length (w .frames))) (length (w .mem .resident)) hr,
           )
           (ten-first (badPage p) (cond (ltb (room (w .files .log)) (w .files .log .len + (5 + P))) 4 (cond (ltb (room (w .files .db)) (p * P + P)) 5 0)))
+
+      pub flush-fits-out : callNo P (Flush p) w ≡ 0 → Fits P w (length (w .mem .touched)) (5 + P) (p * P + P) 0 (length (w .mem .table)) (length (w .mem .resident))
+      flush-fits-out h = chain-fits P w _ _ _ _ _ _ (or-zero (cond (badPage p) 10 0) _ (sym flush-chain ∙ h) .1)
 
 -- ---- commit
 
@@ -373,6 +385,9 @@ module _ (P : ℕ) (w : World) where
         (length (insertEntry (record { id = id; status = Committed (w .mem .time) }) (w .mem .table))) (length (withPage 0 (w .mem .resident)))
         (ap (λ (m : Mem). length (m .touched)) commit-mem) (ap (sumOf logBytes) commit-steps ∙ commit-log P w id) (ap (mostOf (dbEnd P)) commit-steps ∙ commit-db P w id h)
         (ap (mostOf clogEnd) commit-steps ∙ commit-clog P w id) (ap (λ (m : Mem). length (m .table)) commit-mem) (ap (λ (m : Mem). length (m .resident)) commit-mem)
+
+    pub commit-fits : 36 ≤ P → callNo P Commit w ≡ 0 → Fits P w 0 (length (held (w .mem)) * (5 + P) + 18) (max P (mostOf (dbEnd P) (writes P w (held (w .mem))))) (8 + id .0 / 4 + 1) (length (insertEntry (record { id = id; status = Committed (w .mem .time) }) (w .mem .table))) (length (withPage 0 (w .mem .resident)))
+    commit-fits h e = chain-fits P w _ _ _ _ _ _ (sym (commit-no h) ∙ e)
 
 -- its stores, one after another
 pub commit-applied : (P : ℕ) (w : World) (id : TransactionId) (f : Files) → applyAll P (commitSteps P w (Installed id)) f ≡
@@ -522,6 +537,9 @@ module _ (P : ℕ) (list : List ℕ) (w : World) where
           (ap (mostOf clogEnd) rollback-steps ∙ rollback-clog P list w id) (ap (λ (m : Mem). length (m .table)) rollback-mem) (ap (λ (m : Mem). length (m .resident)) rollback-mem)
           ∙ ten-first (anyBad list) _
 
+      pub rollback-fits : 36 ≤ P → callNo P (Rollback list) w ≡ 0 → Fits P w 0 (sumOf logBytes (rollbackSteps P list w (Installed id))) (max P (mostOf (dbEnd P) (writes P w (dataPages list (w .mem))))) (8 + id .0 / 4 + 1) (length (insertEntry (record { id = id; status = Aborted }) (w .mem .table))) (length (withPage 0 (w .mem .resident)))
+      rollback-fits h e = chain-fits P w _ _ _ _ _ _ (passed (anyBad list) 10 _ (lit< tt) (sym (rollback-no h) ∙ e) .1)
+
       -- all stores but the last, the revert, then the last: this is the call
       pub rollback-files : done P (Rollback list) w .files ≡ apply P (metaStep P (rolledBack id (w .mem))) backFiles
       unfolding done
@@ -593,20 +611,27 @@ module _ (P : ℕ) (v : TransactionId) (w : World) where
     pub advance-frames-size : length (keeps P (Advance v) w .frames) ≡ length (w .frames)
     advance-frames-size = ap (λ (u : World). length (u .frames)) advance-keeps ∙ meta-frames-size P (w .files .db) (advanced v (w .mem)) w
 
-    -- 5, 8
-    pub advance-no : 36 ≤ P → w .files .log .len ≤ room (w .files .log) → length (w .mem .table) ≤ 256 → length (w .mem .touched) ≤ 64 → callNo P (Advance v) w ≡
-        cond (ltb (room (w .files .db)) P) 5 (cond (ltb (frameCount 64 P (length (w .frames))) (length (withPage 0 (w .mem .resident)))) 8 0)
+    advance-chain : 36 ≤ P → callNo P (Advance v) w ≡ chainOf P w (length (w .mem .touched)) 0 P 0 (length (w .mem .table)) (length (withPage 0 (w .mem .resident)))
     unfolding argumentNo steps
-    advance-no h hl he ht =
+    advance-chain h =
         call-chain P (Advance v) w advance-frames-size (length (w .mem .touched)) 0 P 0 (length (w .mem .table)) (length (withPage 0 (w .mem .resident)))
         (ap (λ (m : Mem). length (m .touched)) advance-mem) (advance-log P v w above) (advance-db P v w above h) (advance-clog P v w above)
         (ap (λ (m : Mem). length (m .table)) advance-mem) (ap (λ (m : Mem). length (m .resident)) advance-mem)
+
+    -- 5, 8
+    pub advance-no : 36 ≤ P → w .files .log .len ≤ room (w .files .log) → length (w .mem .table) ≤ 256 → length (w .mem .touched) ≤ 64 → callNo P (Advance v) w ≡
+        cond (ltb (room (w .files .db)) P) 5 (cond (ltb (frameCount 64 P (length (w .frames))) (length (withPage 0 (w .mem .resident)))) 8 0)
+    advance-no h hl he ht =
+        advance-chain h
         ∙ rw (
           le-ltb 64 (length (w .mem .touched)) ht,
           le-ltb (room (w .files .log)) (w .files .log .len + 0) (omega arith),
           le-ltb (room (w .files .clog)) 0 (omega arith),
           le-ltb 256 (length (w .mem .table)) he,
         )
+
+    pub advance-fits : 36 ≤ P → callNo P (Advance v) w ≡ 0 → Fits P w (length (w .mem .touched)) 0 P 0 (length (w .mem .table)) (length (withPage 0 (w .mem .resident)))
+    advance-fits h e = chain-fits P w _ _ _ _ _ _ (sym (advance-chain h) ∙ e)
 
     pub advance-files : done P (Advance v) w .files ≡ apply P (metaStep P (advanced v (w .mem))) (apply P (Compact (v .0)) (w .files))
     unfolding done applyAll
