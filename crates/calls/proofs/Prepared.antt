@@ -1,0 +1,246 @@
+-- Laws of calls made ready: the ways in which a call is refused, and that what was made ready, carried out, cut or counted, is the call. Assumes nothing.
+use Prim.Native.Nat.{ℕ, zero, suc, _-_, _*_, _≤_}
+use native.Mathlib.Omega.{arith}
+use mathlib.Core.Path.{_≡_, refl, sym, ap, _∙_}
+use mathlib.Core.List.{List, [], _∷_}
+use mathlib.Core.Bool.{true, false, cond}
+use lib.ListN.{length, take, drop}
+use lib.Dec.{ltb}
+use lib.Seq.{sets, take-all}
+use borrow.Author.Tests.{le-ltb}
+use Rattle.fields.specs.Files.{room, unfit}
+use Rattle.fields.proofs.Tests.{passed}
+use Rattle.fields.proofs.FileLaws.{unfit-len}
+use Rattle.world.specs.World.{Files, World, filesOf, lensOf}
+use Rattle.world.specs.Steps.{Step, applyAll}
+use Rattle.world.specs.Calls.{Call, steps, keeps}
+use Rattle.world.specs.Refusals.{orElse, argumentNo, roomNo, holdNo, callNo, frontNo, refuses}
+use Rattle.world.specs.Run.{done, decided, call, callTo, count}
+use Rattle.stores.specs.declared.Plan.{Plan}
+use Rattle.stores.specs.declared.Cut.{Cut}
+use Rattle.stores.specs.declared.Kind.the-variants.{Nothing}
+use Rattle.stores.specs.Plans.{stepsOf, meant}
+use Rattle.stores.specs.Room.{formNo, numberFor, Carried, cutOf, carried}
+use Rattle.stores.proofs.PlanLaws.{most-steps}
+use Rattle.stores.proofs.RoomLaws.{length-meant}
+use Rattle.form.specs.declared.Store.{Store}
+use Rattle.form.specs.Store.{worldOf, laidStore, outcome, called, calledOn}
+use Rattle.form.proofs.Front.{InForm, front-means}
+use Rattle.calls.specs.declared.Ready.{Ready}
+use Rattle.calls.specs.declared.Counted.{Counted}
+use Rattle.calls.specs.Ready.{Prepared, prepared, remembered, readyFor, readied, pageless, countersOf, idle, metaOf, withLens, filesAt, carriedOut, cutAt, calledTo, countedFor}
+
+-- ---- numbers
+
+pub either-zero : (a b : ℕ) → orElse a b ≡ 0 → (a ≡ 0) × (b ≡ 0)
+either-zero zero b e = (refl, e)
+either-zero (suc a) b e = let z : suc a ≡ 0 = e in absurd (omega arith)
+
+first-zero : (a b : ℕ) → a ≡ 0 → orElse a b ≡ b
+first-zero a b e = rw e
+
+first-more : (a b n : ℕ) → a ≡ suc n → orElse a b ≡ suc n
+first-more a b n e = rw e
+
+fits : (limit size len : ℕ) → size ≤ limit → len ≤ size → unfit limit size len ≡ false
+fits limit size len h l = sym (unfit-len limit size len h) ∙ le-ltb size len l
+
+-- ---- stores carried out: none of them, and all
+
+pub none-carried : (P k : ℕ) (f : Files) → carried P [] k f .files ≡ f
+unfolding carried applyAll
+none-carried P k f = go k (numberFor P [] f)
+  where
+    go : (k n : ℕ) → decided n (applyAll P (take k []) f) f ≡ f
+    go zero zero = refl
+    go (suc k) zero = refl
+    go k (suc n) = refl
+
+pub some-carried : (P k : ℕ) (ss : List Step) (f : Files) → numberFor P ss f ≡ 0 → carried P ss k f .files ≡ applyAll P (take k ss) f
+unfolding carried
+some-carried P k ss f e = rw e
+
+-- ---- what the code does with a plan
+
+module _ (P : ℕ) (r : Ready) (frames : List ℕ) (k : ℕ) (log db clog : List ℕ) where
+  pub cut-is : (c : Carried) →
+      c ≡ carried P (drop 0 (meant P frames (r .plan))) (k - 0) (filesOf (r .store .lens) log db clog) →
+      c .files ≡ filesAt P k (readied P r frames) log db clog
+  unfolding readied
+  cut-is c e =
+      let z : k - 0 ≡ k = omega arith in
+      ap (λ (x : Carried). x .files) e ∙ rw z
+
+  pub all-is : 133 ≤ k → filesAt P k (readied P r frames) log db clog ≡ filesAt P (length (readied P r frames .steps)) (readied P r frames) log db clog
+  unfolding readied carried
+  all-is h =
+      let ss = meant P frames (r .plan) in
+      let few : length ss ≤ 133 = rw (length-meant P frames (r .plan)) (most-steps (r .plan)) in
+      rw (take-all k ss (omega arith), take-all (length ss) ss (omega arith))
+
+-- the code's records
+
+abbrev cutIn : ℕ → Files → Carried
+cutIn n f = record { number = n; files = f }
+
+module _ (P : ℕ) (r : Ready) (frames log db clog : List ℕ) (cut : Cut) (log' db' clog' : List ℕ) where
+  pub cut-files : (k : ℕ) → cutOf cut log' db' clog' ≡ carried P (drop 0 (meant P frames (r .plan))) (k - 0) (filesOf (r .store .lens) log db clog) →
+      filesOf (cut .lens) log' db' clog' ≡ filesAt P k (readied P r frames) log db clog
+  cut-files k e = cut-is P r frames k log db clog (cutOf cut log' db' clog') e
+
+  pub carried-done : (frames' : List ℕ) →
+      cutOf cut log' db' clog' ≡ carried P (drop 0 (meant P frames (r .plan))) (133 - 0) (filesOf (r .store .lens) log db clog) →
+      frames' ≡ cond (r .meta) (sets frames (r .slot * P) (metaOf P (r .plan .meta))) frames →
+      outcome (record { number = r .number; store = withLens (cut .lens) (r .store) }) log' db' clog' frames' ≡ carriedOut P (readied P r frames) log db clog
+  unfolding carriedOut readied
+  carried-done frames' e f =
+      let g = cut-files 133 e ∙ all-is P r frames 133 log db clog (omega arith) in
+      rw f (ap (λ (x : Files). outcome (record { number = r .number; store = withLens (lensOf x) (r .store) }) (x .log .bytes) (x .db .bytes) (x .clog .bytes) (readied P r frames .frames)) g)
+
+pub cut-done : (P : ℕ) (r : Ready) (frames : List ℕ) (k : ℕ) (log db clog : List ℕ) (cut : Cut) (log' db' clog' : List ℕ) →
+    cutOf cut log' db' clog' ≡ carried P (drop 0 (meant P frames (r .plan))) (k - 0) (filesOf (r .store .lens) log db clog) →
+    cutOf (record { number = r .number; lens = cut .lens }) log' db' clog' ≡ cutAt P k (readied P r frames) log db clog
+unfolding cutAt readied
+cut-done P r frames k log db clog cut log' db' clog' e =
+    ap (λ (x : Files). cutIn (r .number) x) (cut-files P r frames log db clog cut log' db' clog' k e)
+
+pub idle-out : (n : ℕ) (s : Store) (p : Plan) → p ≡ pageless Nothing (s .next) (s .time) (countersOf s) →
+    _≡_ {A = Ready} (record { number = n; meta = false; slot = 0; plan = p; store = s }) (idle n s)
+unfolding idle
+idle-out n s p e = ap (λ (x : Plan). record { number = n; meta = false; slot = 0; plan = x; store = s }) e
+
+pub idle-is : (P n : ℕ) (s : Store) (frames : List ℕ) → readied P (idle n s) frames ≡ prepared n [] s frames
+unfolding readied idle meant stepsOf
+idle-is P n s frames = refl
+
+-- ---- the ways out of making ready
+
+module _ (P : ℕ) (c : Call) (s : Store) (log db clog frames : List ℕ) where
+  abbrev here : World
+  here = worldOf s log db clog frames
+
+  refused-ready : (n : ℕ) → refuses P c here ≡ suc n → prepared (suc n) [] s frames ≡ readyFor P c s log db clog frames
+  unfolding readyFor
+  refused-ready n e = rw e
+
+  pub accepted-ready : refuses P c here ≡ 0 →
+      prepared 0 (steps P c here) (remembered P c s here) (keeps P c here .frames) ≡ readyFor P c s log db clog frames
+  unfolding readyFor
+  accepted-ready e = rw e
+
+  -- refused by the tests that every call makes first
+  pub ready-front : (r : Ready) (n : ℕ) → r ≡ idle n s → n ≡ frontNo P here → (n ≡ 0 → ⊥) → readied P r frames ≡ readyFor P c s log db clog frames
+  unfolding refuses
+  ready-front r zero i e h = absurd (h refl)
+  ready-front r (suc n) i e h = ap (λ (x : Ready). readied P x frames) i ∙ idle-is P (suc n) s frames ∙ refused-ready n (rw (← e))
+
+  module _ (e0 : frontNo P here ≡ 0) where
+    pub front-call : refuses P c here ≡ callNo P c here
+    unfolding refuses
+    front-call = rw e0
+
+    -- refused by those of its own
+    pub ready-no : (r : Ready) (n : ℕ) → r ≡ idle (suc n) s → callNo P c here ≡ suc n → readied P r frames ≡ readyFor P c s log db clog frames
+    ready-no r n i e = ap (λ (x : Ready). readied P x frames) i ∙ idle-is P (suc n) s frames ∙ refused-ready n (front-call ∙ e)
+
+    -- the files of a store that passes them are in form for its stores
+    form-0 : formNo (s .lens) (length log) (length db) (length clog) ≡ 0
+    unfolding formNo
+    form-0 =
+        let i = front-means P s log db clog frames e0 in
+        rw (
+          fits 16777216 (length log) (s .lens .log) (i .log-limit) (i .log-fits),
+          fits 16777216 (length db) (s .lens .db) (i .db-limit) (i .db-fits),
+          fits 1048576 (length clog) (s .lens .clog) (i .clog-limit) (i .clog-fits),
+          le-ltb (s .lens .log) 8 (i .log-header),
+          le-ltb (s .lens .clog) 8 (i .clog-header),
+        )
+
+    pub room-is : (ss : List Step) → numberFor P ss (filesOf (s .lens) log db clog) ≡ roomNo P ss (filesOf (s .lens) log db clog)
+    unfolding numberFor
+    room-is ss = first-zero (formNo (s .lens) (length log) (length db) (length clog)) (roomNo P ss (filesOf (s .lens) log db clog)) form-0
+
+    module _ (own : argumentNo c here ≡ 0) (few : length (keeps P c here .mem .touched) ≤ 64) where
+      call-is : callNo P c here ≡ orElse (roomNo P (steps P c here) (here .files)) (holdNo P (keeps P c here))
+      unfolding callNo
+      call-is = rw (own, le-ltb 64 _ few)
+
+      module _ (ss : List Step) (is : ss ≡ steps P c here) where
+        room-here : numberFor P ss (filesOf (s .lens) log db clog) ≡ roomNo P (steps P c here) (here .files)
+        unfolding worldOf
+        room-here = room-is ss ∙ ap (λ (x : List Step). roomNo P x (filesOf (s .lens) log db clog)) is
+
+        -- refused for lack of room
+        pub ready-short : (r : Ready) (n : ℕ) → r ≡ idle n s → n ≡ numberFor P ss (filesOf (s .lens) log db clog) → (n ≡ 0 → ⊥) →
+            readied P r frames ≡ readyFor P c s log db clog frames
+        ready-short r zero i e h = absurd (h refl)
+        ready-short r (suc n) i e h =
+            ready-no r n i
+            (call-is ∙ first-more (roomNo P (steps P c here) (here .files)) (holdNo P (keeps P c here)) n (sym room-here ∙ sym e))
+
+        -- there is room: what memory would hold decides
+        pub call-hold : numberFor P ss (filesOf (s .lens) log db clog) ≡ 0 → callNo P c here ≡ holdNo P (keeps P c here)
+        call-hold e = call-is ∙ first-zero (roomNo P (steps P c here) (here .files)) (holdNo P (keeps P c here)) (sym room-here ∙ e)
+
+-- ---- what was made ready is the call
+
+module _ (P : ℕ) (c : Call) (s : Store) (log db clog frames : List ℕ) where
+  abbrev now : World
+  now = worldOf s log db clog frames
+
+  -- an accepted call has room for its stores
+  accepted-room : refuses P c now ≡ 0 → numberFor P (steps P c now) (filesOf (s .lens) log db clog) ≡ 0
+  unfolding refuses callNo worldOf
+  accepted-room e =
+      let a = either-zero (frontNo P now) (callNo P c now) e in
+      let b = either-zero (argumentNo c now) _ (a .1) in
+      let d = passed (ltb 64 (length (keeps P c now .mem .touched))) 11 _ (omega arith) (b .1) in
+      let r = either-zero (roomNo P (steps P c now) (now .files)) (holdNo P (keeps P c now)) (d .1) in
+      room-is P c s log db clog frames (a .0) (steps P c now) ∙ r .0
+
+  files-cut : (k : ℕ) → filesAt P k (readyFor P c s log db clog frames) log db clog ≡ callTo P k c now
+  unfolding readyFor callTo laidStore worldOf
+  files-cut k = go (refuses P c now) refl
+    where
+      go : (n : ℕ) → refuses P c now ≡ n →
+          filesAt P k (prepared n (decided n (steps P c now) []) (decided n (remembered P c s now) s) (decided n (keeps P c now .frames) frames)) log db clog ≡
+          decided n (applyAll P (take k (steps P c now)) (now .files)) (now .files)
+      go zero e = some-carried P k (steps P c now) (filesOf (s .lens) log db clog) (accepted-room e)
+      go (suc n) e = none-carried P k (filesOf (s .lens) log db clog)
+
+  pub ready-cut : (k : ℕ) → cutAt P k (readyFor P c s log db clog frames) log db clog ≡ calledTo P k c s log db clog frames
+  unfolding cutAt calledTo readyFor
+  ready-cut k = ap (λ (f : Files). cutIn (refuses P c now) f) (files-cut k)
+
+  pub ready-count : (p : Prepared) → p ≡ readyFor P c s log db clog frames →
+      _≡_ {A = Counted} (record { number = p .number; stores = length (p .steps) }) (countedFor P c s log db clog frames)
+  unfolding countedFor readyFor count
+  ready-count p e = ap (λ (x : Prepared). record { number = x .number; stores = length (x .steps) }) e ∙ go (refuses P c now)
+    where
+      go : (n : ℕ) →
+          _≡_ {A = Counted} (record { number = n; stores = length (decided n (steps P c now) []) }) (record { number = n; stores = decided n (length (steps P c now)) 0 })
+      go zero = refl
+      go (suc n) = refl
+
+  pub counted-done : (r : Ready) (n : ℕ) → readied P r frames ≡ readyFor P c s log db clog frames → n ≡ length (stepsOf (r .plan)) →
+      _≡_ {A = Counted} (record { number = r .number; stores = n }) (countedFor P c s log db clog frames)
+  unfolding readied
+  counted-done r n e q =
+      let l : n ≡ length (meant P frames (r .plan)) = q ∙ sym (length-meant P frames (r .plan)) in
+      rw l (ready-count (readied P r frames) e)
+
+  pub ready-called : carriedOut P (readyFor P c s log db clog frames) log db clog ≡ called P c s log db clog frames
+  unfolding carriedOut readyFor calledOn call laidStore worldOf done
+  ready-called = go (refuses P c now) refl
+    where
+      go : (n : ℕ) → refuses P c now ≡ n →
+          carriedOut P (prepared n (decided n (steps P c now) []) (decided n (remembered P c s now) s) (decided n (keeps P c now .frames) frames)) log db clog ≡
+          (let v = decided n (done P c now) now in
+          outcome (record { number = n; store = decided n (laidStore s (done P c now)) s }) (v .files .log .bytes) (v .files .db .bytes) (v .files .clog .bytes) (v .frames))
+      go zero e =
+          let ss = steps P c now in
+          let f = filesOf (s .lens) log db clog in
+          let g : carried P ss (length ss) f .files ≡ applyAll P ss f =
+          some-carried P (length ss) ss f (accepted-room e) ∙ ap (λ (x : List Step). applyAll P x f) (take-all (length ss) ss (omega arith)) in
+          rw g
+      go (suc n) e = rw (none-carried P 0 (filesOf (s .lens) log db clog))

@@ -1,0 +1,241 @@
+// The calls that have stores. Each is made ready first: its number, its stores as a plan, and the store after it; nothing is changed by that. Then it is carried
+// out, or cut at a store as if power went there, or its stores are counted. Every public function is total: its contract is one equation, which says the answer,
+// the store and every byte of the buffers.
+use fields::CommitTime;
+use fields::TransactionId;
+use fields::numbers;
+use form::Changed;
+use form::Held;
+use form::Store;
+use frames::Touched;
+use meta::Counters;
+use stores::Cut;
+use stores::Kind;
+use stores::Plan;
+use table::Status;
+use world::Slot;
+ghost use mathlib.Core.Path.{_≡_};
+ghost use mathlib.Core.Bool.{cond};
+ghost use Prim.Native.Nat.{_*_};
+ghost use lib.Seq.{sets};
+ghost use Rattle.world.specs.Calls.{Begin};
+ghost use Rattle.stores.specs.Room.{cutOf};
+ghost use Rattle.form.specs.Store.{outcome, called};
+ghost use Rattle.calls.specs.Ready.{readyFor, readied, idle, pageless, countersOf, metaOf, carriedOut, cutAt, calledTo, countedFor};
+
+// The most stores that a plan has.
+const MOST: usize = 133;
+
+// What a call would do: its number; its stores; whether page 0's frame gets the plan's counters, and the slot of that frame; the store after it but for the
+// lengths of the files. A refused call has no stores and the old store.
+struct Ready {
+    number: u8,
+    meta: bool,
+    slot: usize,
+    plan: Plan,
+    store: Store,
+}
+
+// How many stores a call has; a refused one has none.
+pub struct Counted {
+    pub number: u8,
+    pub stores: usize,
+}
+
+// ---- what calls have in common
+
+fn counters_of(s: Store) -> Counters
+    ensures { λ r. ⌜ r ≡ countersOf s ⌝ }
+{
+    let next = s.next;
+    let time = s.time;
+    let mark = s.mark;
+    Counters { next, time, mark }
+}
+
+fn pageless_plan(kind: Kind, id: TransactionId, time: CommitTime, m: Counters) -> Plan
+    ensures { λ r. ⌜ r ≡ pageless kind id time m ⌝ }
+{
+    Plan {
+        kind,
+        id,
+        time,
+        pages: [0; 64],
+        slots: [0; 64],
+        n: 0,
+        meta: m,
+    }
+}
+
+// A call that changes nothing: refused, or with nothing to do.
+fn nothing(number: u8, s: Store) -> Ready
+    ensures { λ r. ⌜ r ≡ idle number s ⌝ }
+{
+    let m = counters_of(s);
+    let id = s.next;
+    let time = s.time;
+    let plan = pageless_plan(Kind::Nothing, id, time, m);
+    Ready {
+        number,
+        meta: false,
+        slot: 0,
+        plan,
+        store: s,
+    }
+}
+
+// The counters into a frame. Whether the slot lies past the buffer's end is tested before its place is worked out, which could overflow.
+fn lay_meta(frames: &mut [u8], meta: bool, slot: usize, m: Counters)
+    ensures { λ _. ⌜ now (frames .exit) ≡ cond meta (sets (now (frames .entry)) (slot * 4096) (metaOf 4096 m)) (now (frames .entry)) ⌝ }
+{
+    if !meta {
+        return;
+    }
+    if frames.len() / numbers::PAGE_SIZE < slot {
+        return;
+    }
+    meta::put_meta(frames, slot * numbers::PAGE_SIZE, m);
+}
+
+// The stores first, while the frames are as they were.
+fn carry_out(
+    r: Ready,
+    log: &mut [u8],
+    db: &mut [u8],
+    clog: &mut [u8],
+    frames: &mut [u8],
+) -> Changed
+    ensures { λ a. ⌜ outcome a (now (log .exit)) (now (db .exit)) (now (clog .exit)) (now (frames .exit)) ≡ carriedOut 4096 (readied 4096 r (now (frames .entry))) (now (log .entry)) (now (db .entry)) (now (clog .entry)) ⌝ }
+{
+    let plan = r.plan;
+    let store = r.store;
+    let lens = store.lens;
+    let cut = stores::carry_on(plan, 0, MOST, lens, log, db, clog, &frames[..]);
+    let m = plan.meta;
+    lay_meta(frames, r.meta, r.slot, m);
+    let end = cut.lens;
+    let u = Store { lens: end, ..store };
+    Changed {
+        number: r.number,
+        store: u,
+    }
+}
+
+// As if power went after the first k stores: what memory would hold is gone, so the files alone are left.
+fn cut_at(
+    r: Ready,
+    k: usize,
+    log: &mut [u8],
+    db: &mut [u8],
+    clog: &mut [u8],
+    frames: &[u8],
+) -> Cut
+    ensures { λ a. ⌜ cutOf a (now (log .exit)) (now (db .exit)) (now (clog .exit)) ≡ cutAt 4096 k (readied 4096 r (now (frames .entry))) (now (log .entry)) (now (db .entry)) (now (clog .entry)) ⌝ }
+{
+    let plan = r.plan;
+    let store = r.store;
+    let lens = store.lens;
+    let cut = stores::carry_on(plan, 0, k, lens, log, db, clog, frames);
+    let end = cut.lens;
+    Cut {
+        number: r.number,
+        lens: end,
+    }
+}
+
+// ---- begin
+
+fn ready_begin(
+    s: Store,
+    id: TransactionId,
+    log: &[u8],
+    db: &[u8],
+    clog: &[u8],
+    frames: &[u8],
+) -> Ready
+    ensures { λ r. ⌜ readied 4096 r (now (frames .entry)) ≡ readyFor 4096 (Begin id) s (now (log .entry)) (now (db .entry)) (now (clog .entry)) (now (frames .entry)) ⌝ }
+{
+    let no = form::front_no(s, log, db, clog, frames);
+    if no != numbers::ACCEPTED {
+        return nothing(no, s);
+    }
+    let m = counters_of(s);
+    let time = s.time;
+    let plan = pageless_plan(Kind::Begin, id, time, m);
+    let lens = s.lens;
+    let short = stores::room_no(plan, lens, log, db, clog, frames);
+    if short != numbers::ACCEPTED {
+        return nothing(short, s);
+    }
+    let t = s.table;
+    let set = table::with_status(t, id, Status::Active);
+    if set.number != numbers::ACCEPTED {
+        return nothing(numbers::TABLE_FULL, s);
+    }
+    let table = set.table;
+    let old = s.held;
+    let touched = old.touched;
+    let pages = touched.pages;
+    let none = Touched { pages, count: 0 };
+    let held = Held {
+        slot: Slot::Installed(id),
+        touched: none,
+    };
+    let u = Store { table, held, ..s };
+    Ready {
+        number: numbers::ACCEPTED,
+        meta: false,
+        slot: 0,
+        plan,
+        store: u,
+    }
+}
+
+// A transaction begins, in the place of any that was in: table, begin record, clog.
+pub fn begin(
+    s: Store,
+    id: TransactionId,
+    log: &mut [u8],
+    db: &mut [u8],
+    clog: &mut [u8],
+    frames: &mut [u8],
+) -> Changed
+    ensures { λ r. ⌜ outcome r (now (log .exit)) (now (db .exit)) (now (clog .exit)) (now (frames .exit)) ≡ called 4096 (Begin id) s (now (log .entry)) (now (db .entry)) (now (clog .entry)) (now (frames .entry)) ⌝ }
+{
+    let r = ready_begin(s, id, &log[..], &db[..], &clog[..], &frames[..]);
+    carry_out(r, log, db, clog, frames)
+}
+
+pub fn begin_to(
+    s: Store,
+    id: TransactionId,
+    k: usize,
+    log: &mut [u8],
+    db: &mut [u8],
+    clog: &mut [u8],
+    frames: &[u8],
+) -> Cut
+    ensures { λ r. ⌜ cutOf r (now (log .exit)) (now (db .exit)) (now (clog .exit)) ≡ calledTo 4096 k (Begin id) s (now (log .entry)) (now (db .entry)) (now (clog .entry)) (now (frames .entry)) ⌝ }
+{
+    let r = ready_begin(s, id, &log[..], &db[..], &clog[..], frames);
+    cut_at(r, k, log, db, clog, frames)
+}
+
+pub fn begin_count(
+    s: Store,
+    id: TransactionId,
+    log: &[u8],
+    db: &[u8],
+    clog: &[u8],
+    frames: &[u8],
+) -> Counted
+    ensures { λ r. ⌜ r ≡ countedFor 4096 (Begin id) s (now (log .entry)) (now (db .entry)) (now (clog .entry)) (now (frames .entry)) ⌝ }
+{
+    let r = ready_begin(s, id, log, db, clog, frames);
+    let plan = r.plan;
+    let stores = stores::count(plan);
+    Counted {
+        number: r.number,
+        stores,
+    }
+}
