@@ -1,9 +1,9 @@
 -- Laws of begin: its stores, and one law for each way out of making it ready. Assumes nothing.
-use Prim.Native.Nat.{ℕ, _+_, _≤_, _<_}
+use Prim.Native.Nat.{ℕ, _≤_}
 use native.Mathlib.Omega.{arith}
 use mathlib.Core.Path.{_≡_, refl, sym, ap, _∙_}
-use mathlib.Core.List.{List, [], _∷_}
-use mathlib.Core.Bool.{true, false, cond}
+use mathlib.Core.List.{List}
+use mathlib.Core.Bool.{false, cond}
 use lib.ListN.{length}
 use lib.Dec.{ltb}
 use borrow.Author.Tests.{le-ltb, lt-ltb}
@@ -17,9 +17,8 @@ use Rattle.table.proofs.Facts.{accepted-fits, refused-full, not-accepted, bound
 use Rattle.meta.specs.declared.Counters.{Counters}
 use Rattle.world.specs.declared.Slot.the-variants.{Installed}
 use Rattle.world.specs.World.{World, filesOf}
-use Rattle.world.specs.Steps.{Step}
 use Rattle.world.specs.Calls.{Begin, steps, keeps}
-use Rattle.world.specs.Refusals.{argumentNo, holdNo, callNo, frontNo, refuses}
+use Rattle.world.specs.Refusals.{argumentNo, holdNo, callNo, frontNo}
 use Rattle.stores.specs.declared.Plan.{Plan}
 use Rattle.stores.specs.declared.Kind.the-variants as kind
 use Rattle.stores.specs.Plans.{stepsOf, beginSteps, meaning, meant}
@@ -29,8 +28,8 @@ use Rattle.form.specs.Store.{entriesOf, memOf, worldOf, laidStore}
 use Rattle.form.proofs.Arrays.{Sized}
 use Rattle.form.proofs.Front.{front-means, entries-are, resident-length, frames-same}
 use Rattle.calls.specs.declared.Ready.{Ready}
-use Rattle.calls.specs.Ready.{prepared, pageless, remembered, readyFor, readied, idle}
-use Rattle.calls.proofs.Prepared.{accepted-ready, front-call, ready-no, ready-short, call-hold}
+use Rattle.calls.specs.Ready.{pageless, remembered, readyFor, readied, idle}
+use Rattle.calls.proofs.Prepared.{ready-no, ready-plain, ready-short, call-hold}
 
 module _ (P : ℕ) (id : TransactionId) (s : Store) (log db clog frames : List ℕ) where
   abbrev here : World
@@ -94,19 +93,16 @@ module _ (P : ℕ) (id : TransactionId) (s : Store) (log db clog frames : List �
       unfolding keeps laidStore worldOf memOf
       begin-store e = rw (list, frames-same P s log db clog frames (front-means P s log db clog frames e0) z, e)
 
-      frames-out : refuses P (Begin id) here ≡ 0 →
-          prepared 0 (steps P (Begin id) here) (remembered P (Begin id) s here) frames ≡ readyFor P (Begin id) s log db clog frames
+      begin-frames : frames ≡ keeps P (Begin id) here .frames
       unfolding keeps worldOf
-      frames-out e = accepted-ready P (Begin id) s log db clog frames e
+      begin-frames = refl
 
       pub begin-out : t .number ≡ 0 →
           readied P (record { number = 0; meta = false; slot = 0; plan = plan; store = begun }) frames ≡ readyFor P (Begin id) s log db clog frames
-      unfolding inserted readied
+      unfolding inserted
       begin-out h =
           let l = insertEntry entry (listOf (s .table)) in
           let few = accepted-fits 256 (s .table) l (sym (ap (λ (x : Inserted). x .number) set) ∙ h) in
-          let no : refuses P (Begin id) here ≡ 0 = front-call P (Begin id) s log db clog frames e0 ∙ hold ∙ rw (le-ltb 256 (length l) few) in
           let tab : t .table ≡ laid (s .table) l = ap (λ (x : Inserted). x .table) (set ∙ bounded-yes 256 (s .table) l few) in
-          ap (λ (ss : List Step). prepared 0 ss begun frames) (begin-steps plan time m is)
-          ∙ ap (λ (u : Store). prepared 0 (steps P (Begin id) here) u frames) (sym (begin-store tab))
-          ∙ frames-out no
+          let none : callNo P (Begin id) here ≡ 0 = hold ∙ rw (le-ltb 256 (length l) few) in
+          ready-plain P (Begin id) s log db clog frames e0 plan begun (begin-steps plan time m is) (sym (begin-store tab)) begin-frames none

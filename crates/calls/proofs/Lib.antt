@@ -1,3 +1,6 @@
 -- The laws of the crate's definitions.
 pub mod Prepared
 pub mod Begun
+pub mod Flushed
+pub mod Meta
+pub mod Advanced

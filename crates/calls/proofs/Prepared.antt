@@ -24,8 +24,10 @@ use Rattle.stores.specs.Room.{formNo, numberFor, Carried, cutOf, carried}
 use Rattle.stores.proofs.PlanLaws.{most-steps}
 use Rattle.stores.proofs.RoomLaws.{length-meant}
 use Rattle.form.specs.declared.Store.{Store}
-use Rattle.form.specs.Store.{worldOf, laidStore, outcome, called, calledOn}
-use Rattle.form.proofs.Front.{InForm, front-means}
+use Rattle.form.specs.Store.{memOf, worldOf, laidStore, outcome, called, calledOn}
+use Rattle.form.proofs.Arrays.{Sized}
+use Rattle.form.proofs.Front.{front-means, entries-length, touched-length, resident-length, table-same, frames-same, touched-same}
+use Rattle.form.proofs.Called.{quiet-is}
 use Rattle.calls.specs.declared.Ready.{Ready}
 use Rattle.calls.specs.declared.Counted.{Counted}
 use Rattle.calls.specs.Ready.{Prepared, prepared, remembered, readyFor, readied, pageless, countersOf, idle, metaOf, withLens, filesAt, carriedOut, cutAt, calledTo, countedFor}
@@ -128,6 +130,15 @@ module _ (P : ℕ) (c : Call) (s : Store) (log db clog frames : List ℕ) where
   unfolding readyFor
   accepted-ready e = rw e
 
+  -- accepted: the stores, the store and the frames of the code are those of the call
+  pub ready-as : (ss : List Step) (u : Store) (fs : List ℕ) → ss ≡ steps P c here → u ≡ remembered P c s here → fs ≡ keeps P c here .frames →
+      refuses P c here ≡ 0 → prepared 0 ss u fs ≡ readyFor P c s log db clog frames
+  ready-as ss u fs a b d e =
+      ap (λ (x : List Step). prepared 0 x u fs) a
+      ∙ ap (λ (x : Store). prepared 0 (steps P c here) x fs) b
+      ∙ ap (λ (x : List ℕ). prepared 0 (steps P c here) (remembered P c s here) x) d
+      ∙ accepted-ready e
+
   -- refused by the tests that every call makes first
   pub ready-front : (r : Ready) (n : ℕ) → r ≡ idle n s → n ≡ frontNo P here → (n ≡ 0 → ⊥) → readied P r frames ≡ readyFor P c s log db clog frames
   unfolding refuses
@@ -142,6 +153,24 @@ module _ (P : ℕ) (c : Call) (s : Store) (log db clog frames : List ℕ) where
     -- refused by those of its own
     pub ready-no : (r : Ready) (n : ℕ) → r ≡ idle (suc n) s → callNo P c here ≡ suc n → readied P r frames ≡ readyFor P c s log db clog frames
     ready-no r n i e = ap (λ (x : Ready). readied P x frames) i ∙ idle-is P (suc n) s frames ∙ refused-ready n (front-call ∙ e)
+
+    -- accepted with no stores, and with stores; the frames stay, or page 0's gets meta
+    pub ready-none : (r : Ready) (u : Store) → r ≡ idle 0 u → steps P c here ≡ [] → u ≡ remembered P c s here → frames ≡ keeps P c here .frames →
+        callNo P c here ≡ 0 → readied P r frames ≡ readyFor P c s log db clog frames
+    ready-none r u i a b d e =
+        ap (λ (x : Ready). readied P x frames) i ∙ idle-is P 0 u frames ∙ ready-as [] u frames (sym a) b d (front-call ∙ e)
+
+    pub ready-plain : (plan : Plan) (u : Store) → meant P frames plan ≡ steps P c here → u ≡ remembered P c s here → frames ≡ keeps P c here .frames →
+        callNo P c here ≡ 0 →
+        readied P (record { number = 0; meta = false; slot = 0; plan = plan; store = u }) frames ≡ readyFor P c s log db clog frames
+    unfolding readied
+    ready-plain plan u a b d e = ready-as (meant P frames plan) u frames a b d (front-call ∙ e)
+
+    pub ready-meta : (plan : Plan) (slot : ℕ) (u : Store) → meant P frames plan ≡ steps P c here → u ≡ remembered P c s here →
+        sets frames (slot * P) (metaOf P (plan .meta)) ≡ keeps P c here .frames → callNo P c here ≡ 0 →
+        readied P (record { number = 0; meta = true; slot = slot; plan = plan; store = u }) frames ≡ readyFor P c s log db clog frames
+    unfolding readied
+    ready-meta plan slot u a b d e = ready-as (meant P frames plan) u (sets frames (slot * P) (metaOf P (plan .meta))) a b d (front-call ∙ e)
 
     -- the files of a store that passes them are in form for its stores
     form-0 : formNo (s .lens) (length log) (length db) (length clog) ≡ 0
@@ -181,6 +210,51 @@ module _ (P : ℕ) (c : Call) (s : Store) (log db clog frames : List ℕ) where
         -- there is room: what memory would hold decides
         pub call-hold : numberFor P ss (filesOf (s .lens) log db clog) ≡ 0 → callNo P c here ≡ holdNo P (keeps P c here)
         call-hold e = call-is ∙ first-zero (roomNo P (steps P c here) (here .files)) (holdNo P (keeps P c here)) (sym room-here ∙ e)
+
+-- ---- a call that leaves memory and frames as they are
+
+module _ (P : ℕ) (c : Call) (s : Store) (log db clog frames : List ℕ) (e0 : frontNo P (worldOf s log db clog frames) ≡ 0) (z : Sized s)
+    (own : argumentNo c (worldOf s log db clog frames) ≡ 0) (still : keeps P c (worldOf s log db clog frames) ≡ worldOf s log db clog frames) where
+  abbrev old : World
+  old = worldOf s log db clog frames
+
+  laid-same : laidStore s old ≡ s
+  unfolding laidStore worldOf memOf
+  laid-same =
+      let i = front-means P s log db clog frames e0 in
+      rw (table-same P s log db clog frames i z, frames-same P s log db clog frames i z, touched-same (s .held .touched) (z .touched) (i .touched))
+
+  still-store : s ≡ remembered P c s old
+  still-store = sym (ap (λ (v : World). laidStore s (record { files = old .files; frames = v .frames; mem = v .mem })) still ∙ laid-same)
+
+  still-frames : frames ≡ keeps P c old .frames
+  unfolding worldOf
+  still-frames = sym (ap (λ (v : World). v .frames) still)
+
+  still-few : length (keeps P c old .mem .touched) ≤ 64
+  unfolding worldOf memOf
+  still-few = omega (arith, ap (λ (v : World). length (v .mem .touched)) still, touched-length P s log db clog frames (front-means P s log db clog frames e0))
+
+  still-hold : holdNo P (keeps P c old) ≡ 0
+  unfolding holdNo worldOf memOf
+  still-hold =
+      let i = front-means P s log db clog frames e0 in
+      let e : holdNo P old ≡ 0 = rw (le-ltb 256 _ (entries-length P s log db clog frames i), le-ltb _ _ (resident-length P s log db clog frames i)) in
+      ap (holdNo P) still ∙ e
+
+  pub ready-still : (r : Ready) → r ≡ idle 0 s → steps P c old ≡ [] → readied P r frames ≡ readyFor P c s log db clog frames
+  ready-still r i e =
+      ready-none P c s log db clog frames e0 r s i e still-store still-frames
+      (quiet-is P c s log db clog frames (front-means P s log db clog frames e0) own e still-few ∙ still-hold)
+
+  module _ (plan : Plan) (is : meant P frames plan ≡ steps P c old) (n : ℕ) (room : n ≡ numberFor P (meant P frames plan) (filesOf (s .lens) log db clog)) where
+    pub still-short : (r : Ready) → r ≡ idle n s → (n ≡ 0 → ⊥) → readied P r frames ≡ readyFor P c s log db clog frames
+    still-short r i h = ready-short P c s log db clog frames e0 own still-few (meant P frames plan) is r n i room h
+
+    pub still-out : n ≡ 0 → readied P (record { number = 0; meta = false; slot = 0; plan = plan; store = s }) frames ≡ readyFor P c s log db clog frames
+    still-out e =
+        ready-plain P c s log db clog frames e0 plan s is still-store still-frames
+        (call-hold P c s log db clog frames e0 own still-few (meant P frames plan) is (sym room ∙ e) ∙ still-hold)
 
 -- ---- what was made ready is the call
 

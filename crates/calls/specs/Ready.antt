@@ -17,7 +17,7 @@ use Rattle.world.specs.Refusals.{refuses}
 use Rattle.world.specs.Run.{decided, callTo, count}
 use Rattle.stores.specs.declared.Plan.{Plan}
 use Rattle.stores.specs.declared.Kind.{Kind}
-use Rattle.stores.specs.declared.Kind.the-variants.{Nothing}
+use Rattle.stores.specs.declared.Kind.the-variants.{Nothing, Flush}
 use Rattle.stores.specs.Plans.{meant}
 use Rattle.stores.specs.Room.{Carried, carried}
 use Rattle.form.specs.declared.Store.{Store}
@@ -56,13 +56,18 @@ unfoldable pub readied : ℕ → Ready → List ℕ → Prepared
 readied P r frames =
     prepared (r .number) (meant P frames (r .plan)) (r .store) (cond (r .meta) (withFrame P frames (r .slot) (metaOf P (r .plan .meta))) frames)
 
--- ---- plans with no pages, and a call with no stores
+-- ---- plans with no pages and with one, and a call with no stores
 
 abbrev pub pageless : Kind → TransactionId → CommitTime → Counters → Plan
 pageless k id time m = record { kind = k; id = id; time = time; pages = replicate 64 0; slots = replicate 64 0; n = 0; meta = m }
 
 abbrev pub countersOf : Store → Counters
 countersOf s = record { next = s .next; time = s .time; mark = s .mark }
+
+-- a flush of the page p, whose frame has this slot
+unfoldable pub onePage : ℕ → ℕ → Store → Plan
+onePage p slot s =
+    record { kind = Flush; id = s .next; time = s .time; pages = replicate 64 p; slots = replicate 64 slot; n = 1; meta = countersOf s }
 
 unfoldable pub idle : ℕ → Store → Ready
 idle n s = record { number = n; meta = false; slot = 0; plan = pageless Nothing (s .next) (s .time) (countersOf s); store = s }

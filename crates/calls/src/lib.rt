@@ -7,6 +7,8 @@ use fields::numbers;
 use form::Changed;
 use form::Held;
 use form::Store;
+use frames::Frames;
+use frames::Place;
 use frames::Touched;
 use meta::Counters;
 use stores::Cut;
@@ -16,12 +18,13 @@ use table::Status;
 use world::Slot;
 ghost use mathlib.Core.Path.{_≡_};
 ghost use mathlib.Core.Bool.{cond};
-ghost use Prim.Native.Nat.{_*_};
+ghost use Prim.Native.Nat.{_*_, max};
+ghost use Rattle.frames.specs.Pages.{isIn, slotOf, residentOf};
 ghost use lib.Seq.{sets};
-ghost use Rattle.world.specs.Calls.{Begin};
+ghost use Rattle.world.specs.Calls.{Begin, Flush, Advance};
 ghost use Rattle.stores.specs.Room.{cutOf};
 ghost use Rattle.form.specs.Store.{outcome, called};
-ghost use Rattle.calls.specs.Ready.{readyFor, readied, idle, pageless, countersOf, metaOf, carriedOut, cutAt, calledTo, countedFor};
+ghost use Rattle.calls.specs.Ready.{readyFor, readied, idle, pageless, onePage, countersOf, metaOf, carriedOut, cutAt, calledTo, countedFor};
 
 // The most stores that a plan has.
 const MOST: usize = 133;
@@ -232,6 +235,245 @@ pub fn begin_count(
     ensures { λ r. ⌜ r ≡ countedFor 4096 (Begin id) s (now (log .entry)) (now (db .entry)) (now (clog .entry)) (now (frames .entry)) ⌝ }
 {
     let r = ready_begin(s, id, log, db, clog, frames);
+    let plan = r.plan;
+    let stores = stores::count(plan);
+    Counted {
+        number: r.number,
+        stores,
+    }
+}
+
+// ---- flush
+
+fn page_plan(page: u32, slot: usize, s: Store) -> Plan
+    ensures { λ r. ⌜ r ≡ onePage page slot s ⌝ }
+{
+    let m = counters_of(s);
+    let id = s.next;
+    let time = s.time;
+    Plan {
+        kind: Kind::Flush,
+        id,
+        time,
+        pages: [page; 64],
+        slots: [slot; 64],
+        n: 1,
+        meta: m,
+    }
+}
+
+fn ready_flush(
+    s: Store,
+    page: u32,
+    log: &[u8],
+    db: &[u8],
+    clog: &[u8],
+    frames: &[u8],
+) -> Ready
+    ensures { λ r. ⌜ readied 4096 r (now (frames .entry)) ≡ readyFor 4096 (Flush page) s (now (log .entry)) (now (db .entry)) (now (clog .entry)) (now (frames .entry)) ⌝ }
+{
+    let no = form::front_no(s, log, db, clog, frames);
+    if no != numbers::ACCEPTED {
+        return nothing(no, s);
+    }
+    if numbers::NO_PAGE <= page {
+        return nothing(numbers::BAD_PAGE, s);
+    }
+    let old = s.held;
+    let slot = old.slot;
+    if form::is_installed(slot) {
+        let touched = old.touched;
+        let more = frames::mark(touched, page);
+        if more.number != numbers::ACCEPTED {
+            return nothing(numbers::TOUCHED_FULL, s);
+        }
+        let now_touched = more.touched;
+        let held = Held {
+            slot,
+            touched: now_touched,
+        };
+        let u = Store { held, ..s };
+        return nothing(numbers::ACCEPTED, u);
+    }
+    let f = s.frames;
+    let place = frames::find(f, page);
+    let Place::At(at) = place else {
+        return nothing(numbers::ACCEPTED, s);
+    };
+    let plan = page_plan(page, at, s);
+    let lens = s.lens;
+    let short = stores::room_no(plan, lens, log, db, clog, frames);
+    if short != numbers::ACCEPTED {
+        return nothing(short, s);
+    }
+    Ready {
+        number: numbers::ACCEPTED,
+        meta: false,
+        slot: 0,
+        plan,
+        store: s,
+    }
+}
+
+// Inside a transaction the page is marked touched; outside, a resident page is logged, then written.
+pub fn flush(
+    s: Store,
+    page: u32,
+    log: &mut [u8],
+    db: &mut [u8],
+    clog: &mut [u8],
+    frames: &mut [u8],
+) -> Changed
+    ensures { λ r. ⌜ outcome r (now (log .exit)) (now (db .exit)) (now (clog .exit)) (now (frames .exit)) ≡ called 4096 (Flush page) s (now (log .entry)) (now (db .entry)) (now (clog .entry)) (now (frames .entry)) ⌝ }
+{
+    let r = ready_flush(s, page, &log[..], &db[..], &clog[..], &frames[..]);
+    carry_out(r, log, db, clog, frames)
+}
+
+pub fn flush_to(
+    s: Store,
+    page: u32,
+    k: usize,
+    log: &mut [u8],
+    db: &mut [u8],
+    clog: &mut [u8],
+    frames: &[u8],
+) -> Cut
+    ensures { λ r. ⌜ cutOf r (now (log .exit)) (now (db .exit)) (now (clog .exit)) ≡ calledTo 4096 k (Flush page) s (now (log .entry)) (now (db .entry)) (now (clog .entry)) (now (frames .entry)) ⌝ }
+{
+    let r = ready_flush(s, page, &log[..], &db[..], &clog[..], frames);
+    cut_at(r, k, log, db, clog, frames)
+}
+
+pub fn flush_count(
+    s: Store,
+    page: u32,
+    log: &[u8],
+    db: &[u8],
+    clog: &[u8],
+    frames: &[u8],
+) -> Counted
+    ensures { λ r. ⌜ r ≡ countedFor 4096 (Flush page) s (now (log .entry)) (now (db .entry)) (now (clog .entry)) (now (frames .entry)) ⌝ }
+{
+    let r = ready_flush(s, page, log, db, clog, frames);
+    let plan = r.plan;
+    let stores = stores::count(plan);
+    Counted {
+        number: r.number,
+        stores,
+    }
+}
+
+// ---- advancing the mark
+
+// The slot of a resident page, and 0 of another.
+fn slot_of(f: Frames, page: u32) -> usize
+    ensures { λ r. ⌜ r ≡ cond (isIn page (residentOf f)) (slotOf page (residentOf f)) 0 ⌝ }
+{
+    let place = frames::find(f, page);
+    match place {
+        Place::At(slot) => slot,
+        Place::Nowhere => 0,
+    }
+}
+
+// The page count, raised past page 0.
+fn at_least_one(pages: u32) -> u32
+    ensures { λ r. ⌜ r ≡ max pages 1 ⌝ }
+{
+    if pages < 1 { 1 } else { pages }
+}
+
+fn ready_advance(
+    s: Store,
+    mark: TransactionId,
+    log: &[u8],
+    db: &[u8],
+    clog: &[u8],
+    frames: &[u8],
+) -> Ready
+    ensures { λ r. ⌜ readied 4096 r (now (frames .entry)) ≡ readyFor 4096 (Advance mark) s (now (log .entry)) (now (db .entry)) (now (clog .entry)) (now (frames .entry)) ⌝ }
+{
+    let no = form::front_no(s, log, db, clog, frames);
+    if no != numbers::ACCEPTED {
+        return nothing(no, s);
+    }
+    if mark.0 <= s.mark.0 {
+        return nothing(numbers::ACCEPTED, s);
+    }
+    let next = s.next;
+    let time = s.time;
+    let m = Counters { next, time, mark };
+    let plan = pageless_plan(Kind::Advance, mark, time, m);
+    let lens = s.lens;
+    let short = stores::room_no(plan, lens, log, db, clog, frames);
+    if short != numbers::ACCEPTED {
+        return nothing(short, s);
+    }
+    let f = s.frames;
+    let seat = frames::seat(f, frames.len(), 0);
+    if seat.number != numbers::ACCEPTED {
+        return nothing(numbers::FRAMES_FULL, s);
+    }
+    let more = seat.frames;
+    let slot = slot_of(more, 0);
+    let pages = at_least_one(s.pages);
+    let u = Store {
+        pages,
+        mark,
+        frames: more,
+        ..s
+    };
+    Ready {
+        number: numbers::ACCEPTED,
+        meta: true,
+        slot,
+        plan,
+        store: u,
+    }
+}
+
+// The frozen mark goes up: the clog's slots under it are cleared, and page 0 is written. A mark that is not above the old one changes nothing.
+pub fn advance(
+    s: Store,
+    mark: TransactionId,
+    log: &mut [u8],
+    db: &mut [u8],
+    clog: &mut [u8],
+    frames: &mut [u8],
+) -> Changed
+    ensures { λ r. ⌜ outcome r (now (log .exit)) (now (db .exit)) (now (clog .exit)) (now (frames .exit)) ≡ called 4096 (Advance mark) s (now (log .entry)) (now (db .entry)) (now (clog .entry)) (now (frames .entry)) ⌝ }
+{
+    let r = ready_advance(s, mark, &log[..], &db[..], &clog[..], &frames[..]);
+    carry_out(r, log, db, clog, frames)
+}
+
+pub fn advance_to(
+    s: Store,
+    mark: TransactionId,
+    k: usize,
+    log: &mut [u8],
+    db: &mut [u8],
+    clog: &mut [u8],
+    frames: &[u8],
+) -> Cut
+    ensures { λ r. ⌜ cutOf r (now (log .exit)) (now (db .exit)) (now (clog .exit)) ≡ calledTo 4096 k (Advance mark) s (now (log .entry)) (now (db .entry)) (now (clog .entry)) (now (frames .entry)) ⌝ }
+{
+    let r = ready_advance(s, mark, &log[..], &db[..], &clog[..], frames);
+    cut_at(r, k, log, db, clog, frames)
+}
+
+pub fn advance_count(
+    s: Store,
+    mark: TransactionId,
+    log: &[u8],
+    db: &[u8],
+    clog: &[u8],
+    frames: &[u8],
+) -> Counted
+    ensures { λ r. ⌜ r ≡ countedFor 4096 (Advance mark) s (now (log .entry)) (now (db .entry)) (now (clog .entry)) (now (frames .entry)) ⌝ }
+{
+    let r = ready_advance(s, mark, log, db, clog, frames);
     let plan = r.plan;
     let stores = stores::count(plan);
     Counted {
