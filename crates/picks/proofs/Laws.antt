@@ -18,19 +18,7 @@ use Rattle.picks.specs.declared.Which.{Which}
 use Rattle.picks.specs.declared.Picked.{Picked}
 use Rattle.picks.specs.Picks.{wants, chosen, Seat, seat, seatsOf, pickedOf, seatIf, grown}
 
--- ---- a list of numbers, from turn i on
-
-pub in-here : (p : ℕ) (xs : List ℕ) (i : ℕ) → i < length xs → getD xs i 0 ≡ p → isIn p (drop i xs) ≡ true
-unfolding isIn
-in-here p xs i h e = rw (drop-cons xs i 0 h, eq-eqb (getD xs i 0) p e)
-
-pub in-on : (p : ℕ) (xs : List ℕ) (i : ℕ) → i < length xs → (getD xs i 0 ≡ p → ⊥) → isIn p (drop i xs) ≡ isIn p (drop (i + 1) xs)
-unfolding isIn
-in-on p xs i h e = rw (add-one, drop-cons xs i 0 h, ne-eqb (getD xs i 0) p e)
-
-pub in-end : (p : ℕ) (xs : List ℕ) (i : ℕ) → length xs ≤ i → isIn p (drop i xs) ≡ false
-unfolding isIn
-in-end p xs i h = rw (drop-of-length-le xs h)
+-- ---- catalog pages
 
 pub catalog-1 : (list : List ℕ) (p : ℕ) → p ≡ 1 → isCatalog list p ≡ true
 catalog-1 list p e = rw (eq-eqb p 1 e)
@@ -124,14 +112,6 @@ picked-next which list os ts i h =
 pub picked-none : (N : ℕ) (which : Which) (list os ts : List ℕ) → _≡_ {A = Picked} (record { pages = replicate N 0; slots = replicate N 0; n = 0 }) (pickedOf N (seatsOf os (chosen which list os (take 0 ts))))
 unfolding pickedOf chosen keep
 picked-none N which list os ts = let e : N - 0 ≡ N = omega arith in rw e
-
-pub not-true : (b : Bool) → not b ≡ true → b ≡ false
-not-true true p = let z : false ≡ true = p in cc
-not-true false p = refl
-
-pub not-false : (b : Bool) → not b ≡ false → b ≡ true
-not-false true p = refl
-not-false false p = let z : true ≡ false = p in cc
 
 -- ---- the ways out of a turn
 

@@ -9,7 +9,7 @@ use table::Status;
 use world::Lens;
 ghost use mathlib.Core.Path.{_≡_};
 ghost use mathlib.Core.List.{[], _∷_};
-ghost use Prim.Native.Nat.{_+_, _-_, _*_, _≤_};
+ghost use Prim.Native.Nat.{_+_, _-_, _*_, _<_, _≤_};
 ghost use lib.ListN.{length, take, drop, getD};
 ghost use lib.Seq.{sets};
 ghost use Rattle.fields.specs.Bytes.{part};
@@ -21,6 +21,7 @@ ghost use Rattle.world.specs.Steps.{apply, applyAll};
 ghost use Rattle.world.specs.Refusals.{orElse};
 ghost use Rattle.stores.specs.Plans.{beginSteps, flushSteps, commitSteps, rollbackSteps, advanceSteps, metaStep, stepsOf, meaning, meant};
 ghost use Rattle.stores.specs.Room.{formNo, numberFor, cutOf, carried, needsOf, costOf, shortNo, Enough, lengthOf};
+ghost use Rattle.stores.specs.Told.{tellingTold, firstTold, toldIn, toldBy, lensAfter, tellSteps};
 
 // The most pages of a plan.
 const LIMIT: usize = 64;
@@ -74,6 +75,12 @@ struct Needs {
     log: usize,
     db: usize,
     clog: usize,
+}
+
+// What is told of a store: its kind, offset and length. Kind 1 is a record appended, 2 a page written, 3 a clog change, 4 a truncation.
+pub enum Telling {
+    Store(u8, usize, usize),
+    Nothing,
 }
 
 // ---- the stores of a plan
@@ -495,7 +502,7 @@ fn number_for(plan: Plan, from: usize, lens: Lens, log: usize, db: usize, clog: 
     short_no(w, lens.log, log, db, clog)
 }
 
-// The number of a plan's stores on these files.
+// The number of a plan's stores on these files. The frames have no part in it; they are there because the stores are told with their bytes.
 pub fn room_no(plan: Plan, lens: Lens, log: &[u8], db: &[u8], clog: &[u8], frames: &[u8]) -> u8
     ensures { λ r. ⌜ r ≡ numberFor 4096 (meant 4096 (now (frames .entry)) plan) (filesOf lens (now (log .entry)) (now (db .entry)) (now (clog .entry))) ⌝ }
 {
@@ -553,4 +560,108 @@ pub fn carry_on(
         number: numbers::ACCEPTED,
         lens: at,
     }
+}
+
+// ---- what is told of a store
+
+// The lengths after a store. The database's has no part in what is told.
+fn lens_after(step: Step, lens: Lens) -> Lens
+    requires { ⌜ lens .log ≤ 33554432 ⌝ }
+    ensures { λ r. ⌜ r ≡ lensAfter 4096 step lens ⌝ }
+{
+    let l = lens.log;
+    let d = lens.db;
+    let c = lens.clog;
+    match step {
+        Step::LogImage(_, _) => Lens {
+            log: l + 4101,
+            db: d,
+            clog: c,
+        },
+        Step::LogBegin(_) => Lens {
+            log: l + 9,
+            db: d,
+            clog: c,
+        },
+        Step::LogCommit(_, _) => Lens {
+            log: l + 17,
+            db: d,
+            clog: c,
+        },
+        Step::LogAbort(_) => Lens {
+            log: l + 9,
+            db: d,
+            clog: c,
+        },
+        Step::LogCheckpoint => Lens {
+            log: l + 1,
+            db: d,
+            clog: c,
+        },
+        Step::WritePage(_, _) => lens,
+        Step::WriteMeta(_) => lens,
+        Step::SetSlot(id, _) => Lens {
+            log: l,
+            db: d,
+            clog: fields::larger(c, numbers::HEADER + (id.0 / 4) as usize + 1),
+        },
+        Step::Compact(_) => lens,
+        Step::Truncate => Lens {
+            log: numbers::HEADER,
+            db: d,
+            clog: c,
+        },
+    }
+}
+
+fn told_of(step: Step, lens: Lens) -> Telling
+    ensures { λ r. ⌜ tellingTold r ≡ firstTold (toldBy 4096 step lens ∷ []) ⌝ }
+{
+    let l = lens.log;
+    match step {
+        Step::LogImage(_, _) => Telling::Store(1, l, 4101),
+        Step::LogBegin(_) => Telling::Store(1, l, 9),
+        Step::LogCommit(_, _) => Telling::Store(1, l, 17),
+        Step::LogAbort(_) => Telling::Store(1, l, 9),
+        Step::LogCheckpoint => Telling::Store(1, l, 1),
+        Step::WritePage(page, _) => Telling::Store(2, page as usize * numbers::PAGE_SIZE, 4096),
+        Step::WriteMeta(_) => Telling::Store(2, 0, 4096),
+        Step::SetSlot(id, _) => Telling::Store(3, numbers::HEADER + (id.0 / 4) as usize, 1),
+        Step::Compact(below) => Telling::Store(3, 8, clog::span_below(lens.clog, below)),
+        Step::Truncate => Telling::Store(4, 0, 8),
+    }
+}
+
+// The lengths before the store at k.
+fn lens_at(plan: Plan, k: usize, lens: Lens) -> Lens
+    requires { ⌜ (k < length (stepsOf plan)) × (lens .log ≤ 16777216) ⌝ }
+    ensures { λ r. ⌜ firstTold (toldBy 4096 (getD (stepsOf plan) k Step.Truncate) r ∷ []) ≡ firstTold (drop k (tellSteps 4096 (stepsOf plan) lens)) ⌝ }
+{
+    let mut at = lens;
+    let mut i = 0;
+    while i < k {
+        let s = step_at(plan, i);
+        at = lens_after(s, at);
+        i += 1;
+    }
+    at
+}
+
+// Store k of a plan on files of these lengths, from 1 on: kind, offset, length.
+pub fn tell(plan: Plan, k: usize, lens: Lens) -> Telling
+    ensures { λ r. ⌜ tellingTold r ≡ toldIn 4096 plan k lens ⌝ }
+{
+    if numbers::BUFFER_LIMIT < lens.log {
+        return Telling::Nothing;
+    }
+    if k == 0 {
+        return Telling::Nothing;
+    }
+    let all = count(plan);
+    if all < k {
+        return Telling::Nothing;
+    }
+    let at = lens_at(plan, k - 1, lens);
+    let s = step_at(plan, k - 1);
+    told_of(s, at)
 }

@@ -66,9 +66,6 @@ pub body-other : (P tag : ℕ) → (tag ≡ 1 → ⊥) → (tag ≡ 3 → ⊥) �
 unfolding bodyOf
 body-other P tag a b c = rw (ne-eqb tag 1 a, ne-eqb tag 3 b, ne-eqb tag 5 c)
 
-pub is-five : (tag : ℕ) → 0 < tag → tag ≤ 5 → (tag ≡ 1 → ⊥) → (tag ≡ 2 → ⊥) → (tag ≡ 3 → ⊥) → (tag ≡ 4 → ⊥) → tag ≡ 5
-is-five tag l h a b c d = omega arith
-
 drop-take : (m n : ℕ) (l : List ℕ) → drop m (take (m + n) l) ≡ take n (drop m l)
 drop-take zero n l = rw zero-add
 drop-take (suc m) n [] = simp take-nil

@@ -1,22 +1,23 @@
 -- `picks::is_listed` meets its contract. Assumes nothing.
-use mathlib.Core.Path.{_≡_, refl, sym, _∙_}
+use mathlib.Core.Path.{_≡_, sym, ap, _∙_}
 use Prim.Native.Nat.{_-_, _≤_}
 use native.Mathlib.Omega.{arith}
 use borrow.Author.Needs.{needs}
-use lib.ListN.{length, drop}
+use lib.ListN.{length, take, drop}
+use lib.Seq.{take-length}
 use Rattle.frames.specs.Pages.{isIn}
-use Rattle.picks.proofs.Laws.{in-here, in-on, in-end}
+use Rattle.frames.proofs.Turns.{in-here, in-on, in-end}
 use Rattle.picks.proofs.is_listed.Statement.{statement}
 use Rattle.picks.proofs.is_listed.Tie as tie
 
 abbrev Inv-loop : tie.InvT-loop
-Inv-loop list page i₀ i = (i ≤ length list) × (isIn page list ≡ isIn page (drop i list))
+Inv-loop list page i₀ i = (i ≤ length list) × (isIn page list ≡ isIn page (drop i (take (length list) list)))
 
 abbrev μ-loop : tie.MeasureT-loop
 μ-loop list page i₀ i = length list - i
 
 loop-holds : tie.Need-loop-holds Inv-loop μ-loop
-loop-holds c = (omega arith, refl)
+loop-holds c = let a = c .args in (omega arith, ap (isIn (a .page)) (sym (take-length (a .list .now))))
 
 mul-if1 : tie.Need-mul-if1 Inv-loop μ-loop
 mul-if1 c = search needs
@@ -28,7 +29,7 @@ returns : tie.Need-returns Inv-loop μ-loop
 returns c =
     let l = c .before .before .before .loop in
     let a = c .before .before .before .before .args in
-    sym (l .inv .1 ∙ in-here (a .page) (a .list .now) (l .i) (omega arith) (c .if1 .taken))
+    sym (l .inv .1 ∙ in-here (a .list .now) (length (a .list .now)) (l .i) (a .page) (c .if1 .taken) (omega arith) (omega arith))
 
 add-i : tie.Need-add-i Inv-loop μ-loop
 add-i c = omega arith
@@ -40,13 +41,13 @@ loop-again : tie.Need-loop-again Inv-loop μ-loop
 loop-again c =
     let l = c .before .before .before .loop in
     let a = c .before .before .before .before .args in
-    (omega arith, l .inv .1 ∙ in-on (a .page) (a .list .now) (l .i) (omega arith) (c .if1 .left))
+    (omega arith, l .inv .1 ∙ in-on (a .list .now) (length (a .list .now)) (l .i) (a .page) (c .if1 .left) (omega arith) (omega arith))
 
 returns-2 : tie.Need-returns-2 Inv-loop μ-loop
 returns-2 c =
     let l = c .before .loop in
     let a = c .before .before .args in
-    sym (l .inv .1 ∙ in-end (a .page) (a .list .now) (l .i) (omega arith))
+    sym (l .inv .1 ∙ in-end (a .list .now) (length (a .list .now)) (l .i) (a .page) (omega arith))
 
 pub is-listed-spec : {M : Type 1} → statement M
 is-listed-spec =

@@ -3,7 +3,8 @@ use mathlib.Core.Path.{_≡_, refl, sym, _∙_}
 use lib.ListN.{length}
 use native.Mathlib.Omega.{arith}
 use borrow.Author.Needs.{needs}
-use Rattle.picks.proofs.Laws.{not-true, not-false, seat-no, seat-none, seat-some}
+use borrow.Author.Tests.{not-true, not-false}
+use Rattle.picks.proofs.Laws.{seat-no, seat-none, seat-some}
 use Rattle.picks.proofs.with_page.Statement.{statement}
 use Rattle.picks.proofs.with_page.Tie as tie
 

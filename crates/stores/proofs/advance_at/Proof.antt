@@ -7,9 +7,6 @@ use Prim.Native.Nat.{suc, _+_, _-_}
 use borrow.Author.Needs.{needs}
 use Rattle.stores.proofs.advance_at.Statement.{statement}
 use Rattle.stores.proofs.advance_at.Tie as tie
-use Rattle.stores.proofs.advance_at.Reads as reads
-use Rattle.stores.proofs.advance_at.Lts as lts
-use Rattle.stores.proofs.meta_then.Reads as meta-then-reads
 
 returns : tie.Need-returns
 unfolding advanceSteps

@@ -14,20 +14,6 @@ use mathlib.Core.Path.{_≡_, refl, ap}
 use borrow.Author.Needs.{needs}
 use Rattle.stores.proofs.apply_step.Statement.{statement}
 use Rattle.stores.proofs.apply_step.Tie as tie
-use Rattle.stores.proofs.apply_step.Reads as reads
-use Rattle.stores.proofs.apply_step.Lts as lts
-use Rattle.clog.proofs.compact.Reads as compact-reads
-use Rattle.clog.proofs.record.Reads as record-reads
-use Rattle.fields.proofs.larger.Reads as larger-reads
-use Rattle.meta.proofs.put_meta.Reads as put-meta-reads
-use Rattle.stores.proofs.length_of.Reads as length-of-reads
-use Rattle.stores.proofs.put_image.Reads as put-image-reads
-use Rattle.stores.proofs.put_page.Reads as put-page-reads
-use Rattle.wal.proofs.append_abort.Reads as append-abort-reads
-use Rattle.wal.proofs.append_begin.Reads as append-begin-reads
-use Rattle.wal.proofs.append_checkpoint.Reads as append-checkpoint-reads
-use Rattle.wal.proofs.append_commit.Reads as append-commit-reads
-use Rattle.wal.proofs.truncate.Reads as truncate-reads
 
 -- the files at entry, and the store in the store as lists
 abbrev entry : tie.Start → Files

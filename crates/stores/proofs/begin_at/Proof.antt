@@ -5,8 +5,6 @@ use Prim.Native.Nat.{suc, _+_, _-_}
 use mathlib.Core.Path.{_≡_, refl}
 use Rattle.stores.proofs.begin_at.Statement.{statement}
 use Rattle.stores.proofs.begin_at.Tie as tie
-use Rattle.stores.proofs.begin_at.Reads as reads
-use Rattle.stores.proofs.begin_at.Lts as lts
 
 returns : tie.Need-returns
 unfolding beginSteps

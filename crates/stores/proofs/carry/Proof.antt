@@ -11,12 +11,6 @@ use Rattle.stores.specs.Room.{Enough}
 use Rattle.stores.proofs.RoomLaws.{carry-end, carry-room, carry-next, carry-turn}
 use Rattle.stores.proofs.carry.Statement.{statement}
 use Rattle.stores.proofs.carry.Tie as tie
-use Rattle.stores.proofs.carry.Reads as reads
-use Rattle.stores.proofs.carry.Lts as lts
-use Rattle.fields.proofs.smaller.Reads as smaller-reads
-use Rattle.stores.proofs.apply_step.Reads as apply-step-reads
-use Rattle.stores.proofs.count.Reads as count-reads
-use Rattle.stores.proofs.step_at.Reads as step-at-reads
 
 abbrev Inv-loop : tie.InvT-loop
 Inv-loop plan from k log₀ db₀ clog₀ frames all stop at₀ i₀ log db clog at i =

@@ -12,10 +12,6 @@ use Rattle.stores.specs.Plans.{meant}
 use Rattle.stores.proofs.RoomLaws.{number-is, accepted-enough, carried-refused, carried-done}
 use Rattle.stores.proofs.carry_on.Statement.{statement}
 use Rattle.stores.proofs.carry_on.Tie as tie
-use Rattle.stores.proofs.carry_on.Reads as reads
-use Rattle.stores.proofs.carry_on.Lts as lts
-use Rattle.stores.proofs.carry.Reads as carry-reads
-use Rattle.stores.proofs.number_for.Reads as number-for-reads
 
 -- the files at entry, the stores that are left, and the number that was found
 abbrev entry : tie.Start → Files

@@ -6,9 +6,6 @@ use mathlib.Core.Path.{_≡_, sym, _∙_}
 use borrow.Author.Needs.{needs}
 use Rattle.stores.proofs.commit_at.Statement.{statement}
 use Rattle.stores.proofs.commit_at.Tie as tie
-use Rattle.stores.proofs.commit_at.Reads as reads
-use Rattle.stores.proofs.commit_at.Lts as lts
-use Rattle.stores.proofs.meta_then.Reads as meta-then-reads
 
 mul-t9 : tie.Need-mul-t9
 mul-t9 c = search needs

@@ -4,8 +4,6 @@ use mathlib.Core.Path.{sym, ap}
 use borrow.Author.Needs.{needs}
 use Rattle.stores.proofs.cost.Statement.{statement}
 use Rattle.stores.proofs.cost.Tie as tie
-use Rattle.stores.proofs.cost.Reads as reads
-use Rattle.stores.proofs.cost.Lts as lts
 
 enum-told : tie.Need-enum-told
 enum-told c = search needs

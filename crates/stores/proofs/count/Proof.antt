@@ -8,9 +8,6 @@ use mathlib.Core.Path.{sym, ap, _∙_}
 use borrow.Author.Needs.{needs}
 use Rattle.stores.proofs.count.Statement.{statement}
 use Rattle.stores.proofs.count.Tie as tie
-use Rattle.stores.proofs.count.Reads as reads
-use Rattle.stores.proofs.count.Lts as lts
-use Rattle.fields.proofs.smaller.Reads as smaller-reads
 
 smaller-requires : tie.Need-smaller-requires
 smaller-requires c κs = search needs

@@ -6,8 +6,6 @@ use mathlib.Core.Path.{_≡_, sym}
 use borrow.Author.Needs.{needs}
 use Rattle.stores.proofs.flush_at.Statement.{statement}
 use Rattle.stores.proofs.flush_at.Tie as tie
-use Rattle.stores.proofs.flush_at.Reads as reads
-use Rattle.stores.proofs.flush_at.Lts as lts
 
 mul-t7 : tie.Need-mul-t7
 mul-t7 c = search needs

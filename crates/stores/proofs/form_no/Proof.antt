@@ -6,9 +6,6 @@ use mathlib.Core.Path.{_≡_, sym, _∙_}
 use borrow.Author.Needs.{needs}
 use Rattle.stores.proofs.form_no.Statement.{statement}
 use Rattle.stores.proofs.form_no.Tie as tie
-use Rattle.stores.proofs.form_no.Reads as reads
-use Rattle.stores.proofs.form_no.Lts as lts
-use Rattle.fields.proofs.is_unfit.Reads as is-unfit-reads
 
 is-unfit-requires : tie.Need-is-unfit-requires
 is-unfit-requires c κs = search needs

@@ -8,10 +8,6 @@ use mathlib.Core.Path.{_≡_, ap, _∙_}
 use borrow.Author.Needs.{needs}
 use Rattle.stores.proofs.lay_frame.Statement.{statement}
 use Rattle.stores.proofs.lay_frame.Tie as tie
-use Rattle.stores.proofs.lay_frame.Reads as reads
-use Rattle.stores.proofs.lay_frame.Lts as lts
-use Rattle.fields.proofs.lay.Reads as lay-reads
-use Rattle.frames.proofs.frame_of.Reads as frame-of-reads
 
 mul-from : tie.Need-mul-from
 mul-from c = search needs

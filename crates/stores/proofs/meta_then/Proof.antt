@@ -4,8 +4,6 @@ use Prim.Native.Nat.{suc, _+_, _-_}
 use mathlib.Core.Path.{_≡_, refl}
 use Rattle.stores.proofs.meta_then.Statement.{statement}
 use Rattle.stores.proofs.meta_then.Tie as tie
-use Rattle.stores.proofs.meta_then.Reads as reads
-use Rattle.stores.proofs.meta_then.Lts as lts
 
 returns : tie.Need-returns
 returns c = let e : c .before .before .args .j ≡ 0 = omega arith in rw e

@@ -16,12 +16,6 @@ use mathlib.Core.List.{[]}
 use mathlib.Core.Path.{_≡_, refl, sym, ap, _∙_}
 use Rattle.stores.proofs.needed.Statement.{statement}
 use Rattle.stores.proofs.needed.Tie as tie
-use Rattle.stores.proofs.needed.Reads as reads
-use Rattle.stores.proofs.needed.Lts as lts
-use Rattle.fields.proofs.larger.Reads as larger-reads
-use Rattle.stores.proofs.cost.Reads as cost-reads
-use Rattle.stores.proofs.count.Reads as count-reads
-use Rattle.stores.proofs.step_at.Reads as step-at-reads
 
 abbrev Inv-loop : tie.InvT-loop
 Inv-loop plan from all log₀ db₀ clog₀ i₀ log db clog i =

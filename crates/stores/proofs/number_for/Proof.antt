@@ -11,11 +11,6 @@ use Rattle.stores.specs.Room.{formNo, needsOf, shortNo}
 use Rattle.stores.proofs.RoomLaws.{orElse-first, formed-log}
 use Rattle.stores.proofs.number_for.Statement.{statement}
 use Rattle.stores.proofs.number_for.Tie as tie
-use Rattle.stores.proofs.number_for.Reads as reads
-use Rattle.stores.proofs.number_for.Lts as lts
-use Rattle.stores.proofs.form_no.Reads as form-no-reads
-use Rattle.stores.proofs.needed.Reads as needed-reads
-use Rattle.stores.proofs.short_no.Reads as short-no-reads
 
 form-no-requires : tie.Need-form-no-requires
 form-no-requires c κs = search needs

@@ -8,10 +8,6 @@ use mathlib.Core.Path.{_≡_, _∙_}
 use borrow.Author.Needs.{needs}
 use Rattle.stores.proofs.put_image.Statement.{statement}
 use Rattle.stores.proofs.put_image.Tie as tie
-use Rattle.stores.proofs.put_image.Reads as reads
-use Rattle.stores.proofs.put_image.Lts as lts
-use Rattle.fields.proofs.put_u32.Reads as put-u32-reads
-use Rattle.stores.proofs.lay_frame.Reads as lay-frame-reads
 
 slice-write-log : tie.Need-slice-write-log
 slice-write-log c = search needs

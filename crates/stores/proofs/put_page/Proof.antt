@@ -6,11 +6,6 @@ use Prim.Native.Nat.{_*_}
 use borrow.Author.Needs.{needs}
 use Rattle.stores.proofs.put_page.Statement.{statement}
 use Rattle.stores.proofs.put_page.Tie as tie
-use Rattle.stores.proofs.put_page.Reads as reads
-use Rattle.stores.proofs.put_page.Lts as lts
-use Rattle.fields.proofs.larger.Reads as larger-reads
-use Rattle.fields.proofs.zero_fill.Reads as zero-fill-reads
-use Rattle.stores.proofs.lay_frame.Reads as lay-frame-reads
 
 mul-at : tie.Need-mul-at
 mul-at c = search needs

@@ -7,9 +7,6 @@ use mathlib.Core.Path.{_≡_, sym, _∙_}
 use borrow.Author.Needs.{needs}
 use Rattle.stores.proofs.rollback_at.Statement.{statement}
 use Rattle.stores.proofs.rollback_at.Tie as tie
-use Rattle.stores.proofs.rollback_at.Reads as reads
-use Rattle.stores.proofs.rollback_at.Lts as lts
-use Rattle.stores.proofs.meta_then.Reads as meta-then-reads
 
 returns : tie.Need-returns
 unfolding rollbackSteps

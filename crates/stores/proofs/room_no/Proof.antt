@@ -6,9 +6,6 @@ use Rattle.world.specs.World.{filesOf}
 use Rattle.stores.proofs.RoomLaws.{number-is}
 use Rattle.stores.proofs.room_no.Statement.{statement}
 use Rattle.stores.proofs.room_no.Tie as tie
-use Rattle.stores.proofs.room_no.Reads as reads
-use Rattle.stores.proofs.room_no.Lts as lts
-use Rattle.stores.proofs.number_for.Reads as number-for-reads
 
 number-for-requires : tie.Need-number-for-requires
 number-for-requires c κs = search needs

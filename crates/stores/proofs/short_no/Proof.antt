@@ -6,8 +6,6 @@ use Prim.Native.Nat.{_+_}
 use borrow.Author.Needs.{needs}
 use Rattle.stores.proofs.short_no.Statement.{statement}
 use Rattle.stores.proofs.short_no.Tie as tie
-use Rattle.stores.proofs.short_no.Reads as reads
-use Rattle.stores.proofs.short_no.Lts as lts
 
 sub-if1 : tie.Need-sub-if1
 sub-if1 c = search needs

@@ -9,14 +9,6 @@ use mathlib.Core.Path.{sym, ap, _∙_}
 use borrow.Author.Needs.{needs}
 use Rattle.stores.proofs.step_at.Statement.{statement}
 use Rattle.stores.proofs.step_at.Tie as tie
-use Rattle.stores.proofs.step_at.Reads as reads
-use Rattle.stores.proofs.step_at.Lts as lts
-use Rattle.fields.proofs.smaller.Reads as smaller-reads
-use Rattle.stores.proofs.advance_at.Reads as advance-at-reads
-use Rattle.stores.proofs.begin_at.Reads as begin-at-reads
-use Rattle.stores.proofs.commit_at.Reads as commit-at-reads
-use Rattle.stores.proofs.flush_at.Reads as flush-at-reads
-use Rattle.stores.proofs.rollback_at.Reads as rollback-at-reads
 
 smaller-requires : tie.Need-smaller-requires
 smaller-requires c κs = search needs

@@ -3,7 +3,8 @@ use mathlib.Core.Path.{_∙_}
 use borrow.Author.Needs.{needs}
 use lib.ListN.{drop}
 use lib.Seq.{drop-drop}
-use Rattle.wal.proofs.ReadLaws.{is-image, is-begin, is-commit, is-abort, is-checkpoint, is-five}
+use Rattle.wal.proofs.RecordLaws.{is-five}
+use Rattle.wal.proofs.ReadLaws.{is-image, is-begin, is-commit, is-abort, is-checkpoint}
 use Rattle.wal.proofs.record_of.Statement.{statement}
 use Rattle.wal.proofs.record_of.Tie as tie
 

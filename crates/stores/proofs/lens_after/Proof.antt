@@ -1,0 +1,137 @@
+-- `stores::lens_after` meets its contract: store by store. Assumes nothing.
+use Rattle.stores.specs.Told.{lens, lensAfter}
+use Rattle.stores.specs.declared.Step.{Step}
+use Prim.Native.Nat.{ℕ}
+use mathlib.Core.Path.{sym, ap, _∙_}
+use borrow.Author.Needs.{needs}
+use Rattle.stores.proofs.lens_after.Statement.{statement}
+use Rattle.stores.proofs.lens_after.Tie as tie
+
+enum-told : tie.Need-enum-told
+enum-told c = search needs
+
+add-t8 : tie.Need-add-t8
+add-t8 c = search needs
+
+enum-told-2 : tie.Need-enum-told-2
+enum-told-2 c = search needs
+
+add-t9 : tie.Need-add-t9
+add-t9 c = search needs
+
+enum-told-3 : tie.Need-enum-told-3
+enum-told-3 c = search needs
+
+add-t10 : tie.Need-add-t10
+add-t10 c = search needs
+
+enum-told-4 : tie.Need-enum-told-4
+enum-told-4 c = search needs
+
+add-t11 : tie.Need-add-t11
+add-t11 c = search needs
+
+enum-told-5 : tie.Need-enum-told-5
+enum-told-5 c = search needs
+
+add-t12 : tie.Need-add-t12
+add-t12 c = search needs
+
+enum-told-6 : tie.Need-enum-told-6
+enum-told-6 c = search needs
+
+enum-told-7 : tie.Need-enum-told-7
+enum-told-7 c = search needs
+
+enum-known-step : tie.Need-enum-known-step
+enum-known-step c = search needs
+
+add-larger : tie.Need-add-larger
+add-larger c = search needs
+
+add-larger-2 : tie.Need-add-larger-2
+add-larger-2 c = search needs
+
+larger-requires : tie.Need-larger-requires
+larger-requires c κs = search needs
+
+enum-told-8 : tie.Need-enum-told-8
+enum-told-8 c = search needs
+
+enum-told-9 : tie.Need-enum-told-9
+enum-told-9 c = search needs
+
+returns : tie.Need-returns
+unfolding lensAfter
+returns c = sym (ap (λ (s : Step). lensAfter 4096 s (c .before .before .args .lens)) (c .enum-told .given .1))
+
+returns-2 : tie.Need-returns-2
+unfolding lensAfter
+returns-2 c = sym (ap (λ (s : Step). lensAfter 4096 s (c .before .before .args .lens)) (c .enum-told2 .given .1))
+
+returns-3 : tie.Need-returns-3
+unfolding lensAfter
+returns-3 c = sym (ap (λ (s : Step). lensAfter 4096 s (c .before .before .args .lens)) (c .enum-told3 .given .1))
+
+returns-4 : tie.Need-returns-4
+unfolding lensAfter
+returns-4 c = sym (ap (λ (s : Step). lensAfter 4096 s (c .before .before .args .lens)) (c .enum-told4 .given .1))
+
+returns-5 : tie.Need-returns-5
+unfolding lensAfter
+returns-5 c = sym (ap (λ (s : Step). lensAfter 4096 s (c .before .before .args .lens)) (c .enum-told5 .given .1))
+
+returns-6 : tie.Need-returns-6
+unfolding lensAfter
+returns-6 c = sym (ap (λ (s : Step). lensAfter 4096 s (c .before .before .args .lens)) (c .enum-told6 .given .1))
+
+returns-7 : tie.Need-returns-7
+unfolding lensAfter
+returns-7 c = sym (ap (λ (s : Step). lensAfter 4096 s (c .before .before .args .lens)) (c .enum-told7 .given .1))
+
+returns-8 : tie.Need-returns-8
+unfolding lensAfter
+returns-8 c =
+    let a = c .before .before .before .before .before .args in
+    ap (λ (m : ℕ). lens (a .lens .log) (a .lens .db) m) (c .larger .ensures) ∙ sym (ap (λ (s : Step). lensAfter 4096 s (a .lens)) (c .before .before .before .step .given .1))
+
+returns-9 : tie.Need-returns-9
+unfolding lensAfter
+returns-9 c = sym (ap (λ (s : Step). lensAfter 4096 s (c .before .before .args .lens)) (c .enum-told8 .given .1))
+
+returns-10 : tie.Need-returns-10
+unfolding lensAfter
+returns-10 c = sym (ap (λ (s : Step). lensAfter 4096 s (c .before .before .args .lens)) (c .enum-told9 .given .1))
+
+pub lens-after-spec : {M : Type 1} → statement M
+lens-after-spec =
+    tie.close
+    (tie.spec
+    enum-told
+    add-t8
+    enum-told-2
+    add-t9
+    enum-told-3
+    add-t10
+    enum-told-4
+    add-t11
+    enum-told-5
+    add-t12
+    enum-told-6
+    enum-told-7
+    enum-known-step
+    add-larger
+    add-larger-2
+    larger-requires
+    enum-told-8
+    enum-told-9
+    returns
+    returns-2
+    returns-3
+    returns-4
+    returns-5
+    returns-6
+    returns-7
+    returns-8
+    returns-9
+    returns-10)
