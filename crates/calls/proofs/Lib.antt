@@ -4,3 +4,4 @@ pub mod Begun
 pub mod Flushed
 pub mod Meta
 pub mod Advanced
+pub mod Committed

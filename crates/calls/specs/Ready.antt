@@ -1,18 +1,22 @@
 -- A call, made ready: its number, its stores, and what it leaves in memory and in the frame buffer; then carried out, cut at a store, or counted. A refused call
 -- is made ready as one with no stores that leaves everything as it was. P is the page size. Assumes nothing.
-use Prim.Native.Nat.{ℕ}
+use Prim.Native.Nat.{ℕ, max}
 use mathlib.Core.List.{List, []}
-use mathlib.Core.Bool.{cond, false}
+use mathlib.Core.Bool.{cond, true, false}
 use lib.ListN.{length, replicate}
 use Rattle.fields.specs.declared.TransactionId.{TransactionId}
 use Rattle.fields.specs.declared.CommitTime.{CommitTime}
 use Rattle.meta.specs.declared.Counters.{Counters}
 use Rattle.meta.specs.Page.{metaPage}
+use Rattle.table.specs.declared.Table.{Table}
+use Rattle.frames.specs.declared.Frames.{Frames}
+use Rattle.frames.specs.Pages.{isIn, slotOf, residentOf}
 use Rattle.frames.specs.Copies.{withFrame}
 use Rattle.world.specs.declared.Lens.{Lens}
+use Rattle.world.specs.declared.Slot.the-variants.{Empty}
 use Rattle.world.specs.World.{Files, World, filesOf, lensOf}
 use Rattle.world.specs.Steps.{Step}
-use Rattle.world.specs.Calls.{Call, steps, keeps}
+use Rattle.world.specs.Calls.{Call, nextTime, steps, keeps}
 use Rattle.world.specs.Refusals.{refuses}
 use Rattle.world.specs.Run.{decided, callTo, count}
 use Rattle.stores.specs.declared.Plan.{Plan}
@@ -109,3 +113,29 @@ unfoldable pub countedFor : ℕ → Call → Store → List ℕ → List ℕ →
 countedFor P c s log db clog frames =
     let w = worldOf s log db clog frames in
     record { number = refuses P c w; stores = count P c w }
+
+-- ---- commit
+
+-- the slot of a page's frame, or the next slot
+unfoldable pub slotFor : ℕ → Frames → ℕ
+slotFor p f = cond (isIn p (residentOf f)) (slotOf p (residentOf f)) (f .count)
+
+-- an accepted commit: its plan, the table and the resident pages after it
+unfoldable pub committedAs : Store → Plan → Table → Frames → Ready
+committedAs s plan t f =
+    record {
+      number = 0;
+      meta = true;
+      slot = slotFor 0 (s .frames);
+      plan = plan;
+      store = record {
+        lens = s .lens;
+        pages = max (s .pages) 1;
+        next = s .next;
+        time = nextTime (s .time);
+        mark = s .mark;
+        table = t;
+        frames = f;
+        held = record { slot = Empty; touched = record { pages = s .held .touched .pages; count = 0 } };
+      };
+    }

@@ -15,16 +15,17 @@ use stores::Cut;
 use stores::Kind;
 use stores::Plan;
 use table::Status;
+use table::Table;
 use world::Slot;
 ghost use mathlib.Core.Path.{_≡_};
 ghost use mathlib.Core.Bool.{cond};
 ghost use Prim.Native.Nat.{_*_, max};
 ghost use Rattle.frames.specs.Pages.{isIn, slotOf, residentOf};
 ghost use lib.Seq.{sets};
-ghost use Rattle.world.specs.Calls.{Begin, Flush, Advance};
+ghost use Rattle.world.specs.Calls.{Begin, Flush, Advance, Commit};
 ghost use Rattle.stores.specs.Room.{cutOf};
 ghost use Rattle.form.specs.Store.{outcome, called};
-ghost use Rattle.calls.specs.Ready.{readyFor, readied, idle, pageless, onePage, countersOf, metaOf, carriedOut, cutAt, calledTo, countedFor};
+ghost use Rattle.calls.specs.Ready.{readyFor, readied, idle, pageless, onePage, countersOf, metaOf, carriedOut, cutAt, calledTo, countedFor, slotFor, committedAs};
 
 // The most stores that a plan has.
 const MOST: usize = 133;
@@ -101,13 +102,7 @@ fn lay_meta(frames: &mut [u8], meta: bool, slot: usize, m: Counters)
 }
 
 // The stores first, while the frames are as they were.
-fn carry_out(
-    r: Ready,
-    log: &mut [u8],
-    db: &mut [u8],
-    clog: &mut [u8],
-    frames: &mut [u8],
-) -> Changed
+fn carry_out(r: Ready, log: &mut [u8], db: &mut [u8], clog: &mut [u8], frames: &mut [u8]) -> Changed
     ensures { λ a. ⌜ outcome a (now (log .exit)) (now (db .exit)) (now (clog .exit)) (now (frames .exit)) ≡ carriedOut 4096 (readied 4096 r (now (frames .entry))) (now (log .entry)) (now (db .entry)) (now (clog .entry)) ⌝ }
 {
     let plan = r.plan;
@@ -125,14 +120,7 @@ fn carry_out(
 }
 
 // As if power went after the first k stores: what memory would hold is gone, so the files alone are left.
-fn cut_at(
-    r: Ready,
-    k: usize,
-    log: &mut [u8],
-    db: &mut [u8],
-    clog: &mut [u8],
-    frames: &[u8],
-) -> Cut
+fn cut_at(r: Ready, k: usize, log: &mut [u8], db: &mut [u8], clog: &mut [u8], frames: &[u8]) -> Cut
     ensures { λ a. ⌜ cutOf a (now (log .exit)) (now (db .exit)) (now (clog .exit)) ≡ cutAt 4096 k (readied 4096 r (now (frames .entry))) (now (log .entry)) (now (db .entry)) (now (clog .entry)) ⌝ }
 {
     let plan = r.plan;
@@ -262,14 +250,7 @@ fn page_plan(page: u32, slot: usize, s: Store) -> Plan
     }
 }
 
-fn ready_flush(
-    s: Store,
-    page: u32,
-    log: &[u8],
-    db: &[u8],
-    clog: &[u8],
-    frames: &[u8],
-) -> Ready
+fn ready_flush(s: Store, page: u32, log: &[u8], db: &[u8], clog: &[u8], frames: &[u8]) -> Ready
     ensures { λ r. ⌜ readied 4096 r (now (frames .entry)) ≡ readyFor 4096 (Flush page) s (now (log .entry)) (now (db .entry)) (now (clog .entry)) (now (frames .entry)) ⌝ }
 {
     let no = form::front_no(s, log, db, clog, frames);
@@ -474,6 +455,139 @@ pub fn advance_count(
     ensures { λ r. ⌜ r ≡ countedFor 4096 (Advance mark) s (now (log .entry)) (now (db .entry)) (now (clog .entry)) (now (frames .entry)) ⌝ }
 {
     let r = ready_advance(s, mark, log, db, clog, frames);
+    let plan = r.plan;
+    let stores = stores::count(plan);
+    Counted {
+        number: r.number,
+        stores,
+    }
+}
+
+// ---- commit
+
+// The slot of a page's frame; of one that is not resident the slot that it would get.
+fn slot_for(f: Frames, page: u32) -> usize
+    ensures { λ r. ⌜ r ≡ slotFor page f ⌝ }
+{
+    let place = frames::find(f, page);
+    match place {
+        Place::At(slot) => slot,
+        Place::Nowhere => f.count,
+    }
+}
+
+// The page count, raised past page 0.
+fn some_pages(pages: u32) -> u32
+    ensures { λ r. ⌜ r ≡ max pages 1 ⌝ }
+{
+    if pages < 1 { 1 } else { pages }
+}
+
+// An accepted commit, with its table and its resident pages: the transaction's place is emptied, and page 0's frame gets the plan's counters.
+fn committing(s: Store, plan: Plan, table: Table, more: Frames) -> Ready
+    ensures { λ r. ⌜ r ≡ committedAs s plan table more ⌝ }
+{
+    let f = s.frames;
+    let slot = slot_for(f, 0);
+    let pages = some_pages(s.pages);
+    let old = s.time;
+    let time = table::next_time(old);
+    let held = s.held;
+    let touched = held.touched;
+    let array = touched.pages;
+    let none = Touched {
+        pages: array,
+        count: 0,
+    };
+    let empty = Held {
+        slot: Slot::Empty,
+        touched: none,
+    };
+    let u = Store {
+        pages,
+        time,
+        table,
+        frames: more,
+        held: empty,
+        ..s
+    };
+    Ready {
+        number: numbers::ACCEPTED,
+        meta: true,
+        slot,
+        plan,
+        store: u,
+    }
+}
+
+fn ready_commit(s: Store, log: &[u8], db: &[u8], clog: &[u8], frames: &[u8]) -> Ready
+    ensures { λ r. ⌜ readied 4096 r (now (frames .entry)) ≡ readyFor 4096 Commit s (now (log .entry)) (now (db .entry)) (now (clog .entry)) (now (frames .entry)) ⌝ }
+{
+    let no = form::front_no(s, log, db, clog, frames);
+    if no != numbers::ACCEPTED {
+        return nothing(no, s);
+    }
+    let held = s.held;
+    let slot = held.slot;
+    let Slot::Installed(id) = slot else {
+        return nothing(numbers::ACCEPTED, s);
+    };
+    let m = counters_of(s);
+    let touched = held.touched;
+    let f = s.frames;
+    let plan = plans::commit_plan(id, touched, f, m);
+    let lens = s.lens;
+    let short = stores::room_no(plan, lens, log, db, clog, frames);
+    if short != numbers::ACCEPTED {
+        return nothing(short, s);
+    }
+    let t = s.table;
+    let time = s.time;
+    let set = table::with_status(t, id, Status::Committed(time));
+    if set.number != numbers::ACCEPTED {
+        return nothing(numbers::TABLE_FULL, s);
+    }
+    let seat = frames::seat(f, frames.len(), 0);
+    if seat.number != numbers::ACCEPTED {
+        return nothing(numbers::FRAMES_FULL, s);
+    }
+    let table = set.table;
+    let more = seat.frames;
+    committing(s, plan, table, more)
+}
+
+// The transaction's touched resident pages are logged, then written, and it is Committed at the next commit time; with no transaction there is nothing to do.
+pub fn commit(
+    s: Store,
+    log: &mut [u8],
+    db: &mut [u8],
+    clog: &mut [u8],
+    frames: &mut [u8],
+) -> Changed
+    ensures { λ r. ⌜ outcome r (now (log .exit)) (now (db .exit)) (now (clog .exit)) (now (frames .exit)) ≡ called 4096 Commit s (now (log .entry)) (now (db .entry)) (now (clog .entry)) (now (frames .entry)) ⌝ }
+{
+    let r = ready_commit(s, &log[..], &db[..], &clog[..], &frames[..]);
+    carry_out(r, log, db, clog, frames)
+}
+
+pub fn commit_to(
+    s: Store,
+    k: usize,
+    log: &mut [u8],
+    db: &mut [u8],
+    clog: &mut [u8],
+    frames: &[u8],
+) -> Cut
+    ensures { λ r. ⌜ cutOf r (now (log .exit)) (now (db .exit)) (now (clog .exit)) ≡ calledTo 4096 k Commit s (now (log .entry)) (now (db .entry)) (now (clog .entry)) (now (frames .entry)) ⌝ }
+{
+    let r = ready_commit(s, &log[..], &db[..], &clog[..], frames);
+    cut_at(r, k, log, db, clog, frames)
+}
+
+pub fn commit_count(s: Store, log: &[u8], db: &[u8], clog: &[u8], frames: &[u8]) -> Counted
+    ensures { λ r. ⌜ r ≡ countedFor 4096 Commit s (now (log .entry)) (now (db .entry)) (now (clog .entry)) (now (frames .entry)) ⌝ }
+{
+    let r = ready_commit(s, log, db, clog, frames);
     let plan = r.plan;
     let stores = stores::count(plan);
     Counted {
