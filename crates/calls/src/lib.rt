@@ -476,20 +476,13 @@ fn slot_for(f: Frames, page: u32) -> usize
     }
 }
 
-// The page count, raised past page 0.
-fn some_pages(pages: u32) -> u32
-    ensures { λ r. ⌜ r ≡ max pages 1 ⌝ }
-{
-    if pages < 1 { 1 } else { pages }
-}
-
 // An accepted commit, with its table and its resident pages: the transaction's place is emptied, and page 0's frame gets the plan's counters.
 fn committing(s: Store, plan: Plan, table: Table, more: Frames) -> Ready
     ensures { λ r. ⌜ r ≡ committedAs s plan table more ⌝ }
 {
     let f = s.frames;
     let slot = slot_for(f, 0);
-    let pages = some_pages(s.pages);
+    let pages = at_least_one(s.pages);
     let old = s.time;
     let time = table::next_time(old);
     let held = s.held;
