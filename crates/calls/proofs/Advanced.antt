@@ -2,20 +2,19 @@
 use Prim.Native.Nat.{ℕ, _≤_, _<_, _*_, max}
 use native.Mathlib.Omega.{arith}
 use mathlib.Core.Path.{_≡_, refl, sym, ap, _∙_}
-use mathlib.Core.List.{List, [], _∷_}
-use mathlib.Core.Bool.{true, false, cond}
+use mathlib.Core.List.{List, []}
+use mathlib.Core.Bool.{true, cond}
 use lib.ListN.{length}
 use lib.Dec.{ltb}
 use lib.Seq.{sets}
 use borrow.Author.Tests.{le-ltb, lt-ltb}
 use Rattle.fields.specs.declared.TransactionId.{TransactionId}
-use Rattle.fields.specs.declared.CommitTime.{CommitTime}
 use Rattle.meta.specs.declared.Counters.{Counters}
 use Rattle.meta.specs.Page.{metaPage}
 use Rattle.meta.proofs.Laws.{length-meta}
 use Rattle.frames.specs.declared.Seated.{Seated}
 use Rattle.frames.specs.Pages as pages
-use Rattle.frames.specs.Pages.{isIn, slotOf, seated}
+use Rattle.frames.specs.Pages.{seated}
 use Rattle.frames.proofs.Values.{seat-refused}
 use Rattle.world.specs.World.{Mem, World, filesOf}
 use Rattle.world.specs.Calls.{Advance, steps, keeps, advanceSteps, advanceKeeps, advanced, metaWritten, seat, write}
@@ -30,7 +29,7 @@ use Rattle.form.specs.Store.{residentOf, memOf, worldOf, laidStore}
 use Rattle.form.proofs.Arrays.{Sized}
 use Rattle.form.proofs.Front.{front-means, entries-length, touched-length, table-same, touched-same}
 use Rattle.calls.specs.declared.Ready.{Ready}
-use Rattle.calls.specs.Ready.{pageless, metaOf, remembered, readyFor, readied, idle}
+use Rattle.calls.specs.Ready.{pageless, metaOf, remembered, readyFor, readied, idle, slotFor}
 use Rattle.calls.proofs.Prepared.{ready-no, ready-meta, ready-short, ready-still, call-hold}
 use Rattle.calls.proofs.Meta.{write-hold, write-laid, write-slot}
 
@@ -146,18 +145,18 @@ module _ (P : ℕ) (v : TransactionId) (s : Store) (log db clog frames : List �
                 let f = write-laid P 0 (here .files .db) page mem s log db clog frames resident-is long e0 z x sat seatOk in
                 rw (table-same P s log db clog frames i z, touched-same (s .held .touched) (z .touched) (i .touched), f, up)
 
-            frame-is : (slot : ℕ) → slot ≡ cond (isIn 0 (pages.residentOf (x .frames))) (slotOf 0 (pages.residentOf (x .frames))) 0 →
+            frame-is : (slot : ℕ) → slot ≡ slotFor 0 (s .frames) →
                 sets frames (slot * P) (metaOf P (plan .meta)) ≡ keeps P (Advance v) here .frames
             frame-is slot e =
                 ap (λ (y : Plan). sets frames (slot * P) (metaOf P (y .meta))) is
-                ∙ write-slot P 0 (here .files .db) page mem s log db clog frames resident-is long e0 z x sat seatOk slot e
+                ∙ write-slot P 0 (here .files .db) page mem s log db clog frames resident-is long e0 z slot e
                 ∙ sym (ap (λ (w : World). w .frames) (keeps-high ∙ written))
 
             raised-is : remembered P (Advance v) s here ≡ raised
             raised-is =
                 ap (λ (w : World). laidStore s (record { files = here .files; frames = w .frames; mem = w .mem })) (keeps-high ∙ written) ∙ raised-laid
 
-            pub advance-out : (slot : ℕ) → slot ≡ cond (isIn 0 (pages.residentOf (x .frames))) (slotOf 0 (pages.residentOf (x .frames))) 0 →
+            pub advance-out : (slot : ℕ) → slot ≡ slotFor 0 (s .frames) →
                 readied P (record { number = 0; meta = true; slot = slot; plan = plan; store = raised }) frames ≡
                 readyFor P (Advance v) s log db clog frames
             advance-out slot e =

@@ -9,7 +9,6 @@ use lib.Dec.{ltb}
 use borrow.Author.Tests.{le-ltb, lt-ltb}
 use Rattle.fields.specs.declared.TransactionId.{TransactionId}
 use Rattle.fields.specs.declared.CommitTime.{CommitTime}
-use Rattle.fields.proofs.Tests.{Order, less, most, order}
 use Rattle.table.specs.declared.Status.the-variants.{Committed}
 use Rattle.table.specs.declared.Entry.{Entry}
 use Rattle.table.specs.declared.Table.{Table}
@@ -19,13 +18,9 @@ use Rattle.table.proofs.Facts.{accepted-fits, refused-full, not-accepted, bound
 use Rattle.meta.specs.declared.Counters.{Counters}
 use Rattle.frames.specs.declared.Frames.{Frames}
 use Rattle.frames.specs.declared.Seated.{Seated}
-use Rattle.frames.specs.declared.Place.{Place}
-use Rattle.frames.specs.declared.Place.the-variants.{At, Nowhere}
 use Rattle.frames.specs.Pages as pages
-use Rattle.frames.specs.Pages.{isIn, slotOf, withPage, laidFrames, frameCount, placeTold, foundIn, seated}
+use Rattle.frames.specs.Pages.{withPage, laidFrames, frameCount, seated}
 use Rattle.frames.specs.Copies.{withFrame}
-use Rattle.frames.proofs.Lists.{slot-absent, with-old, with-new}
-use Rattle.frames.proofs.Values.{at-means, nowhere-means, seat-old, seat-new, seat-full}
 use Rattle.world.specs.declared.Slot.the-variants.{Installed, Empty}
 use Rattle.world.specs.World.{Mem, World, filesOf}
 use Rattle.world.specs.Steps.{Step}
@@ -42,25 +37,13 @@ use Rattle.stores.specs.Room.{numberFor}
 use Rattle.plans.specs.Planned.{planOf, timed}
 use Rattle.plans.proofs.Meanings.{chosen-all, commit-means}
 use Rattle.form.specs.declared.Store.{Store}
-use Rattle.form.specs.Store.{entriesOf, residentOf, touchedOf, memOf, worldOf, laidStore}
-use Rattle.form.proofs.Arrays.{Sized, length-first}
+use Rattle.form.specs.Store.{entriesOf, residentOf, memOf, worldOf, laidStore}
+use Rattle.form.proofs.Arrays.{Sized}
 use Rattle.form.proofs.Front.{InForm, front-means, entries-length, touched-length, resident-length, entries-are, resident-are, touched-are, table-same, frames-same, touched-same}
 use Rattle.calls.specs.declared.Ready.{Ready}
 use Rattle.calls.specs.Ready.{prepared, countersOf, metaOf, remembered, readyFor, readied, idle, slotFor, committedAs}
+use Rattle.calls.proofs.Meta.{slot-is, seat-laid}
 use Rattle.calls.proofs.Prepared.{idle-is, accepted-ready, front-call, ready-no, ready-short, call-hold}
-
--- ---- the slot of a page's frame
-
-module _ (p : ℕ) (f : Frames) (place : Place) (told : placeTold place ≡ foundIn p (pages.residentOf f)) where
-  pub slot-at : (slot : ℕ) → place ≡ At slot → slot ≡ slotFor p f
-  unfolding slotFor
-  slot-at slot e =
-      let m = at-means p (pages.residentOf f) slot (sym (ap placeTold e) ∙ told) in
-      rw (m .0) (m .1)
-
-  pub slot-next : place ≡ Nowhere → f .count ≡ slotFor p f
-  unfolding slotFor
-  slot-next e = rw (nowhere-means p (pages.residentOf f) (sym (ap placeTold e) ∙ told))
 
 -- an accepted commit as the code has it
 pub committed-is : (s : Store) (plan : Plan) (t : Table) (f : Frames) (slot pages : ℕ) (time : CommitTime) → slot ≡ slotFor 0 (s .frames) → pages ≡ max (s .pages) 1 →
@@ -85,39 +68,6 @@ pub committed-is : (s : Store) (plan : Plan) (t : Table) (f : Frames) (slot page
     (committedAs s plan t f)
 unfolding committedAs
 committed-is s plan t f slot pages time a b d = rw (a, b, d)
-
--- ---- a list of resident pages with one more, laid
-
-module _ (P : ℕ) (p : ℕ) (s : Store) (log db clog frames : List ℕ) (i : InForm P s log db clog frames) (z : Sized s) where
-  same : residentOf (s .frames) ≡ pages.residentOf (s .frames)
-  same = resident-are P s log db clog frames i z
-
-  slot-is : slotFor p (s .frames) ≡ slotOf p (residentOf (s .frames))
-  unfolding slotFor
-  slot-is = rw (← same) (go (isIn p (residentOf (s .frames))) refl)
-    where
-      go : (b : Bool) → isIn p (residentOf (s .frames)) ≡ b → cond b (slotOf p (residentOf (s .frames))) (s .frames .count) ≡ slotOf p (residentOf (s .frames))
-      go true h = refl
-      go false h = sym (slot-absent p (residentOf (s .frames)) h ∙ length-first 0 (s .frames .count) (s .frames .pages))
-
-  seat-laid : seated 64 P (s .frames) (length frames) p .number ≡ 0 →
-      laidFrames (s .frames) (withPage p (residentOf (s .frames))) ≡ seated 64 P (s .frames) (length frames) p .frames
-  seat-laid e = go (isIn p (pages.residentOf (s .frames))) refl (order (length (pages.residentOf (s .frames))) (frameCount 64 P (length frames)))
-    where
-      go : (b : Bool) → isIn p (pages.residentOf (s .frames)) ≡ b → Order (length (pages.residentOf (s .frames))) (frameCount 64 P (length frames)) →
-          laidFrames (s .frames) (withPage p (residentOf (s .frames))) ≡ seated 64 P (s .frames) (length frames) p .frames
-      go true h o =
-          let k : isIn p (residentOf (s .frames)) ≡ true = rw same h in
-          ap (laidFrames (s .frames)) (with-old p (residentOf (s .frames)) k)
-          ∙ frames-same P s log db clog frames i z
-          ∙ sym (ap (λ (r : Seated). r .frames) (seat-old 64 P (s .frames) (length frames) p h))
-      go false h (less k) =
-          ap (λ (l : List ℕ). laidFrames (s .frames) (withPage p l)) same
-          ∙ ap (laidFrames (s .frames)) (with-new p (pages.residentOf (s .frames)) h)
-          ∙ sym (ap (λ (r : Seated). r .frames) (seat-new 64 P (s .frames) (length frames) p h k))
-      go false h (most k) =
-          let y : _≡_ {A = ℕ} 8 0 = sym (ap (λ (r : Seated). r .number) (seat-full 64 P (s .frames) (length frames) p h k)) ∙ e in
-          absurd (omega arith)
 
 -- ---- with no transaction
 
@@ -266,7 +216,7 @@ module _ (P : ℕ) (s : Store) (log db clog frames : List ℕ) where
             commit-page h =
                 let c : plan .meta ≡ timed (countersOf s) = ap (λ (x : Plan). x .meta) (is ∙ ap planned mc) in
                 ap (λ (x : Counters). withFrame P frames (slotFor 0 (s .frames)) (metaOf P x)) c
-                ∙ rw (slot-is P 0 s log db clog frames i z) (sym (commit-frames P here id in-slot h))
+                ∙ rw (slot-is P 0 s log db clog frames e0 z) (sym (commit-frames P here id in-slot h))
 
             opened : readied P (committedAs s plan (t .table) (g .frames)) frames ≡
                 prepared 0 (meant P frames plan) (committedAs s plan (t .table) (g .frames) .store) (withFrame P frames (slotFor 0 (s .frames)) (metaOf P (plan .meta)))
@@ -281,7 +231,7 @@ module _ (P : ℕ) (s : Store) (log db clog frames : List ℕ) where
                 let tab : t .table ≡ laid (s .table) listed = ap (λ (x : Inserted). x .table) (set ∙ bounded-yes 256 (s .table) listed few) in
                 let got : seated 64 P (s .frames) (length frames) 0 .number ≡ 0 = sym (ap (λ (x : Seated). x .number) seats) ∙ free in
                 let fr : g .frames ≡ laidFrames (s .frames) (withPage 0 (residentOf (s .frames))) =
-                ap (λ (x : Seated). x .frames) seats ∙ sym (seat-laid P 0 s log db clog frames i z got) in
+                ap (λ (x : Seated). x .frames) seats ∙ sym (seat-laid P 0 s log db clog frames e0 z got) in
                 ap (λ (x : Ready). readied P x frames) k
                 ∙ opened
                 ∙ ap (λ (ss : List Step). prepared 0 ss (committedAs s plan (t .table) (g .frames) .store) (withFrame P frames (slotFor 0 (s .frames)) (metaOf P (plan .meta)))) (commit-stores plan m is mc)

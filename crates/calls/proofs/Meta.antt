@@ -1,6 +1,6 @@
 -- Laws of meta in page 0's frame: its slot, the frame that is written whole and so need not be filled first, and the number of a call that writes it.
 -- Assumes nothing.
-use Prim.Native.Nat.{ℕ, _+_, _*_, _≤_, _<_, max}
+use Prim.Native.Nat.{ℕ, _+_, _*_, _≤_, _<_}
 use native.Mathlib.Omega.{arith}
 use mathlib.Core.Path.{_≡_, refl, sym, ap, _∙_}
 use mathlib.Core.List.{List, [], _∷_}
@@ -21,16 +21,17 @@ use Rattle.frames.specs.declared.Place.the-variants.{At, Nowhere}
 use Rattle.frames.specs.Pages as pages
 use Rattle.frames.specs.Pages.{isIn, slotOf, withPage, laidFrames, frameCount, placeTold, foundIn, seated}
 use Rattle.frames.specs.Copies.{pageOf}
-use Rattle.frames.proofs.Lists.{slot-absent, with-old, with-new, with-in, with-slot}
-use Rattle.frames.proofs.Values.{at-means, nowhere-means, seat-old, seat-new, seat-full, seat-list}
+use Rattle.frames.proofs.Lists.{slot-absent, with-old, with-new, with-slot}
+use Rattle.frames.proofs.Values.{at-means, nowhere-means, seat-old, seat-new, seat-full}
 use Rattle.frames.proofs.CopyLaws.{length-page}
 use Rattle.world.specs.World.{Mem, World, withMem}
 use Rattle.world.specs.Calls.{seat, write}
 use Rattle.world.specs.Refusals.{holdNo, frontNo}
 use Rattle.form.specs.declared.Store.{Store}
 use Rattle.form.specs.Store.{residentOf, worldOf}
-use Rattle.form.proofs.Arrays.{Sized}
+use Rattle.form.proofs.Arrays.{Sized, length-first}
 use Rattle.form.proofs.Front.{front-means, resident-length, resident-are, frames-same}
+use Rattle.calls.specs.Ready.{slotFor}
 
 -- ---- bytes stored over bytes
 
@@ -49,18 +50,20 @@ over-again l xs ys at e =
 whole : (n : ℕ) (xs : List ℕ) → length xs ≡ n → part n xs 0 ≡ xs
 whole n xs e = part-in n xs 0 (omega arith) ∙ take-all n xs (omega arith)
 
--- ---- the slot that the code looks up
+-- ---- the slot of a page's frame
 
-module _ (f : Frames) (p : ℕ) (place : Place) (found : placeTold place ≡ foundIn p (pages.residentOf f)) where
-  pub slot-at : (slot : ℕ) → place ≡ At slot → slot ≡ cond (isIn p (pages.residentOf f)) (slotOf p (pages.residentOf f)) 0
+module _ (p : ℕ) (f : Frames) (place : Place) (told : placeTold place ≡ foundIn p (pages.residentOf f)) where
+  pub slot-at : (slot : ℕ) → place ≡ At slot → slot ≡ slotFor p f
+  unfolding slotFor
   slot-at slot e =
-      let m = at-means p (pages.residentOf f) slot (sym (ap placeTold e) ∙ found) in
-      rw (m .0, m .1)
+      let m = at-means p (pages.residentOf f) slot (sym (ap placeTold e) ∙ told) in
+      rw (m .0) (m .1)
 
-  pub slot-nowhere : place ≡ Nowhere → 0 ≡ cond (isIn p (pages.residentOf f)) (slotOf p (pages.residentOf f)) 0
-  slot-nowhere e = rw (nowhere-means p (pages.residentOf f) (sym (ap placeTold e) ∙ found))
+  pub slot-next : place ≡ Nowhere → f .count ≡ slotFor p f
+  unfolding slotFor
+  slot-next e = rw (nowhere-means p (pages.residentOf f) (sym (ap placeTold e) ∙ told))
 
--- ---- a seat: its number, its frames, its slot
+-- ---- a seat: its number and its frames
 
 module _ (P : ℕ) (p : ℕ) (f : Frames) (size : ℕ) where
   abbrev list : List ℕ
@@ -82,8 +85,8 @@ module _ (P : ℕ) (p : ℕ) (f : Frames) (size : ℕ) where
           let m : length (withPage p list) ≡ length list + 1 = ap length (with-new p list h) ∙ length-append list (p ∷ []) in
           rw (m, lt-ltb most-frames (length list + 1) (omega arith)) (sym (ap (λ (r : Seated). r .number) (seat-full 64 P f size p h k)))
 
-  seat-laid : laidFrames f list ≡ f → seated 64 P f size p .number ≡ 0 → seated 64 P f size p .frames ≡ laidFrames f (withPage p list)
-  seat-laid same e = go (isIn p list) refl (order (length list) most-frames)
+  laid-seat : laidFrames f list ≡ f → seated 64 P f size p .number ≡ 0 → seated 64 P f size p .frames ≡ laidFrames f (withPage p list)
+  laid-seat same e = go (isIn p list) refl (order (length list) most-frames)
     where
       go : (b : Bool) → isIn p list ≡ b → Order (length list) most-frames → seated 64 P f size p .frames ≡ laidFrames f (withPage p list)
       go true h o = ap (λ (r : Seated). r .frames) (seat-old 64 P f size p h) ∙ sym (ap (laidFrames f) (with-old p list h) ∙ same)
@@ -92,11 +95,26 @@ module _ (P : ℕ) (p : ℕ) (f : Frames) (size : ℕ) where
           let y : _≡_ {A = ℕ} 8 0 = sym (ap (λ (r : Seated). r .number) (seat-full 64 P f size p h k)) ∙ e in
           absurd (omega arith)
 
-  seat-slot : (g : Frames) (slot : ℕ) → g ≡ seated 64 P f size p .frames → seated 64 P f size p .number ≡ 0 →
-      slot ≡ cond (isIn p (pages.residentOf g)) (slotOf p (pages.residentOf g)) 0 → slot ≡ slotOf p list
-  seat-slot g slot e n is =
-      let r : pages.residentOf g ≡ withPage p list = ap (λ (x : Frames). pages.residentOf x) e ∙ seat-list 64 P f size p n in
-      is ∙ rw (r, with-in p list, with-slot p list)
+-- ---- the page's slot and the resident pages with it, on a store in form
+
+module _ (P p : ℕ) (s : Store) (log db clog frames : List ℕ) (e0 : frontNo P (worldOf s log db clog frames) ≡ 0) (z : Sized s) where
+  pub resident-same : residentOf (s .frames) ≡ pages.residentOf (s .frames)
+  resident-same = resident-are P s log db clog frames (front-means P s log db clog frames e0) z
+
+  pub slot-is : slotFor p (s .frames) ≡ slotOf p (residentOf (s .frames))
+  unfolding slotFor
+  slot-is = rw (← resident-same) (go (isIn p (residentOf (s .frames))) refl)
+    where
+      go : (b : Bool) → isIn p (residentOf (s .frames)) ≡ b → cond b (slotOf p (residentOf (s .frames))) (s .frames .count) ≡ slotOf p (residentOf (s .frames))
+      go true h = refl
+      go false h = sym (slot-absent p (residentOf (s .frames)) h ∙ length-first 0 (s .frames .count) (s .frames .pages))
+
+  pub seat-laid : seated 64 P (s .frames) (length frames) p .number ≡ 0 →
+      laidFrames (s .frames) (withPage p (residentOf (s .frames))) ≡ seated 64 P (s .frames) (length frames) p .frames
+  seat-laid e =
+      let f = s .frames in
+      let l : laidFrames f (pages.residentOf f) ≡ f = rw (← resident-same) (frames-same P s log db clog frames (front-means P s log db clog frames e0) z) in
+      rw resident-same (sym (laid-seat P p f (length frames) l e))
 
 -- ---- bytes written to page p of a world whose memory is m
 
@@ -122,7 +140,7 @@ module _ (P p : ℕ) (file : File) (bytes : List ℕ) (m : Mem) (s : Store) (log
 
   module _ (len : length bytes ≡ P) (e0 : frontNo P (worldOf s log db clog frames) ≡ 0) (z : Sized s) where
     same : residentOf (s .frames) ≡ pages.residentOf (s .frames)
-    same = resident-are P s log db clog frames (front-means P s log db clog frames e0) z
+    same = resident-same P p s log db clog frames e0 z
 
     after-resident : after .mem .resident ≡ withPage p (pages.residentOf (s .frames))
     unfolding write seat
@@ -145,15 +163,7 @@ module _ (P p : ℕ) (file : File) (bytes : List ℕ) (m : Mem) (s : Store) (log
       none = sym (ap (λ (r : Seated). r .number) is) ∙ ok
 
       pub write-laid : laidFrames (s .frames) (withPage p (m .resident)) ≡ x .frames
-      write-laid =
-          let f = s .frames in
-          let i = front-means P s log db clog frames e0 in
-          let l : laidFrames f (pages.residentOf f) ≡ f = rw (← same) (frames-same P s log db clog frames i z) in
-          rw (res, same) (sym (ap (λ (r : Seated). r .frames) is ∙ seat-laid P p f (length frames) l none))
+      write-laid = rw res (seat-laid P p s log db clog frames e0 z none ∙ sym (ap (λ (r : Seated). r .frames) is))
 
-      pub write-slot : (slot : ℕ) → slot ≡ cond (isIn p (pages.residentOf (x .frames))) (slotOf p (pages.residentOf (x .frames))) 0 →
-          sets frames (slot * P) bytes ≡ after .frames
-      write-slot slot e =
-          let k : slot ≡ slotOf p (residentOf (s .frames)) =
-          seat-slot P p (s .frames) (length frames) (x .frames) slot (ap (λ (r : Seated). r .frames) is) none e ∙ ap (slotOf p) (sym same) in
-          ap (λ (j : ℕ). sets frames (j * P) bytes) k ∙ write-frames len
+    pub write-slot : (slot : ℕ) → slot ≡ slotFor p (s .frames) → sets frames (slot * P) bytes ≡ after .frames
+    write-slot slot e = ap (λ (j : ℕ). sets frames (j * P) bytes) (e ∙ slot-is P p s log db clog frames e0 z) ∙ write-frames len

@@ -20,7 +20,6 @@ use world::Slot;
 ghost use mathlib.Core.Path.{_≡_};
 ghost use mathlib.Core.Bool.{cond};
 ghost use Prim.Native.Nat.{_*_, max};
-ghost use Rattle.frames.specs.Pages.{isIn, slotOf, residentOf};
 ghost use lib.Seq.{sets};
 ghost use Rattle.world.specs.Calls.{Begin, Flush, Advance, Commit};
 ghost use Rattle.stores.specs.Room.{cutOf};
@@ -347,14 +346,14 @@ pub fn flush_count(
 
 // ---- advancing the mark
 
-// The slot of a resident page, and 0 of another.
-fn slot_of(f: Frames, page: u32) -> usize
-    ensures { λ r. ⌜ r ≡ cond (isIn page (residentOf f)) (slotOf page (residentOf f)) 0 ⌝ }
+// The slot of a page's frame; of one that is not resident the slot that it would get.
+fn slot_for(f: Frames, page: u32) -> usize
+    ensures { λ r. ⌜ r ≡ slotFor page f ⌝ }
 {
     let place = frames::find(f, page);
     match place {
         Place::At(slot) => slot,
-        Place::Nowhere => 0,
+        Place::Nowhere => f.count,
     }
 }
 
@@ -397,7 +396,7 @@ fn ready_advance(
         return nothing(numbers::FRAMES_FULL, s);
     }
     let more = seat.frames;
-    let slot = slot_of(more, 0);
+    let slot = slot_for(f, 0);
     let pages = at_least_one(s.pages);
     let u = Store {
         pages,
@@ -464,17 +463,6 @@ pub fn advance_count(
 }
 
 // ---- commit
-
-// The slot of a page's frame; of one that is not resident the slot that it would get.
-fn slot_for(f: Frames, page: u32) -> usize
-    ensures { λ r. ⌜ r ≡ slotFor page f ⌝ }
-{
-    let place = frames::find(f, page);
-    match place {
-        Place::At(slot) => slot,
-        Place::Nowhere => f.count,
-    }
-}
 
 // An accepted commit, with its table and its resident pages: the transaction's place is emptied, and page 0's frame gets the plan's counters.
 fn committing(s: Store, plan: Plan, table: Table, more: Frames) -> Ready

@@ -74,8 +74,8 @@ returns-4 c =
     advance-8 4096 (a .mark) (a .s) (a .log .now) (a .db .now) (a .clog .now) (a .frames .now) e0 (sized start) (c .before .before .before .before .before .before .before .before .before .before .before .if2 .left) (lit≤ tt) (plan .result) (plan .ensures) (k .result) (k .ensures) (c .before .before .before .before .before .if3 .left)
     (x .result) (x .ensures) (c .nothing4 .result) (c .nothing4 .ensures) (c .before .if4 .taken)
 
-slot-of-requires : tie.Need-slot-of-requires
-slot-of-requires c κs = search needs
+slot-for-requires : tie.Need-slot-for-requires
+slot-for-requires c κs = search needs
 
 at-least-one-requires : tie.Need-at-least-one-requires
 at-least-one-requires c κs = search needs
@@ -90,7 +90,7 @@ returns-5 c =
     let x = c .before .before .before .before .before .before .before .before .before .before .seat in
     let up = c .before .before .before .before .before .at-least-one in
     advance-out 4096 (a .mark) (a .s) (a .log .now) (a .db .now) (a .clog .now) (a .frames .now) e0 (sized start) (c .before .before .before .before .before .before .before .before .before .before .before .before .before .before .before .before .before .before .if2 .left) (lit≤ tt) (plan .result) (plan .ensures) (k .result) (k .ensures) (c .before .before .before .before .before .before .before .before .before .before .before .before .if3 .left)
-    (x .result) (x .ensures) (c .before .before .before .before .before .before .before .before .if4 .left) (up .result) (up .ensures) (c .before .before .before .before .before .before .slot-of .result) (c .before .before .before .before .before .before .slot-of .ensures)
+    (x .result) (x .ensures) (c .before .before .before .before .before .before .before .before .if4 .left) (up .result) (up .ensures) (c .before .before .before .before .before .before .slot-for .result) (c .before .before .before .before .before .before .slot-for .ensures)
 
 pub ready-advance-spec : {M : Type 1} → statement M
 ready-advance-spec =
@@ -108,6 +108,6 @@ ready-advance-spec =
     seat-requires
     nothing-requires-4
     returns-4
-    slot-of-requires
+    slot-for-requires
     at-least-one-requires
     returns-5)

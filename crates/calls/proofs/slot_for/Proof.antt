@@ -1,5 +1,5 @@
 -- `calls::slot_for` meets its contract: the page is found, or it is not resident. Assumes nothing.
-use Rattle.calls.proofs.Committed.{slot-at, slot-next}
+use Rattle.calls.proofs.Meta.{slot-at, slot-next}
 use borrow.Author.Needs.{needs}
 use Rattle.calls.proofs.slot_for.Statement.{statement}
 use Rattle.calls.proofs.slot_for.Tie as tie
