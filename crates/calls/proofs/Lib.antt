@@ -5,3 +5,4 @@ pub mod Flushed
 pub mod Meta
 pub mod Advanced
 pub mod Committed
+pub mod ToldLaws

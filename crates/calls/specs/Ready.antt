@@ -18,16 +18,18 @@ use Rattle.world.specs.World.{Files, World, filesOf, lensOf}
 use Rattle.world.specs.Steps.{Step}
 use Rattle.world.specs.Calls.{Call, nextTime, steps, keeps}
 use Rattle.world.specs.Refusals.{refuses}
-use Rattle.world.specs.Run.{decided, callTo, count}
+use Rattle.world.specs.Run.{decided, callTo, count, tellings}
 use Rattle.stores.specs.declared.Plan.{Plan}
 use Rattle.stores.specs.declared.Kind.{Kind}
 use Rattle.stores.specs.declared.Kind.the-variants.{Nothing, Flush}
 use Rattle.stores.specs.Plans.{meant}
 use Rattle.stores.specs.Room.{Carried, carried}
+use Rattle.stores.specs.Told.{tellingTold, toldAt, toldIn}
 use Rattle.form.specs.declared.Store.{Store}
 use Rattle.form.specs.Store.{worldOf, laidStore, Outcome, outcome}
 use Rattle.calls.specs.declared.Ready.{Ready}
 use Rattle.calls.specs.declared.Counted.{Counted}
+use Rattle.calls.specs.declared.Told.{Told}
 
 -- ---- made ready
 
@@ -139,3 +141,23 @@ committedAs s plan t f =
         held = record { slot = Empty; touched = record { pages = s .held .touched .pages; count = 0 } };
       };
     }
+
+-- ---- tellings
+
+-- a call's number, and of one of its stores kind, offset and length; no values where nothing is told
+pub record ToldCall : Type 0 where
+  pub number : ℕ
+  pub values : List ℕ
+
+unfoldable pub toldBy : Told → ToldCall
+toldBy t = record { number = t .number; values = tellingTold (t .telling) }
+
+-- store k of a call, from 1 on; nothing for 0, past the last store, and where the call is refused
+unfoldable pub toldFor : ℕ → ℕ → Call → Store → List ℕ → List ℕ → List ℕ → List ℕ → ToldCall
+toldFor P k c s log db clog frames =
+    let w = worldOf s log db clog frames in
+    record { number = refuses P c w; values = toldAt k (tellings P c w) }
+
+-- store k of what was made ready, by the lengths that its store has
+unfoldable pub toldOf : ℕ → ℕ → Ready → ToldCall
+toldOf P k r = record { number = r .number; values = toldIn P (r .plan) k (r .store .lens) }

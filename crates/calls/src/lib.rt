@@ -14,6 +14,7 @@ use meta::Counters;
 use stores::Cut;
 use stores::Kind;
 use stores::Plan;
+use stores::Telling;
 use table::Status;
 use table::Table;
 use world::Slot;
@@ -24,7 +25,7 @@ ghost use lib.Seq.{sets};
 ghost use Rattle.world.specs.Calls.{Begin, Flush, Advance, Commit};
 ghost use Rattle.stores.specs.Room.{cutOf};
 ghost use Rattle.form.specs.Store.{outcome, called};
-ghost use Rattle.calls.specs.Ready.{readyFor, readied, idle, pageless, onePage, countersOf, metaOf, carriedOut, cutAt, calledTo, countedFor, slotFor, committedAs};
+ghost use Rattle.calls.specs.Ready.{readyFor, readied, idle, pageless, onePage, countersOf, metaOf, carriedOut, cutAt, calledTo, countedFor, slotFor, committedAs, toldBy, toldOf, toldFor};
 
 // The most stores that a plan has.
 const MOST: usize = 133;
@@ -575,4 +576,78 @@ pub fn commit_count(s: Store, log: &[u8], db: &[u8], clog: &[u8], frames: &[u8])
         number: r.number,
         stores,
     }
+}
+
+// ---- tellings
+
+// A call's number, and what is told of its store k, from 1 on; nothing for 0, past the last store, and where the call is refused.
+pub struct Told {
+    pub number: u8,
+    pub telling: Telling,
+}
+
+// The lengths are those before the call, since making ready changes none of them.
+fn told_at(r: Ready, k: usize) -> Told
+    ensures { λ a. ⌜ toldBy a ≡ toldOf 4096 k r ⌝ }
+{
+    let plan = r.plan;
+    let store = r.store;
+    let lens = store.lens;
+    let telling = stores::tell(plan, k, lens);
+    Told {
+        number: r.number,
+        telling,
+    }
+}
+
+pub fn begin_told(
+    s: Store,
+    id: TransactionId,
+    k: usize,
+    log: &[u8],
+    db: &[u8],
+    clog: &[u8],
+    frames: &[u8],
+) -> Told
+    ensures { λ r. ⌜ toldBy r ≡ toldFor 4096 k (Begin id) s (now (log .entry)) (now (db .entry)) (now (clog .entry)) (now (frames .entry)) ⌝ }
+{
+    let r = ready_begin(s, id, log, db, clog, frames);
+    told_at(r, k)
+}
+
+pub fn flush_told(
+    s: Store,
+    page: u32,
+    k: usize,
+    log: &[u8],
+    db: &[u8],
+    clog: &[u8],
+    frames: &[u8],
+) -> Told
+    ensures { λ r. ⌜ toldBy r ≡ toldFor 4096 k (Flush page) s (now (log .entry)) (now (db .entry)) (now (clog .entry)) (now (frames .entry)) ⌝ }
+{
+    let r = ready_flush(s, page, log, db, clog, frames);
+    told_at(r, k)
+}
+
+pub fn advance_told(
+    s: Store,
+    mark: TransactionId,
+    k: usize,
+    log: &[u8],
+    db: &[u8],
+    clog: &[u8],
+    frames: &[u8],
+) -> Told
+    ensures { λ r. ⌜ toldBy r ≡ toldFor 4096 k (Advance mark) s (now (log .entry)) (now (db .entry)) (now (clog .entry)) (now (frames .entry)) ⌝ }
+{
+    let r = ready_advance(s, mark, log, db, clog, frames);
+    told_at(r, k)
+}
+
+pub fn commit_told(s: Store, k: usize, log: &[u8], db: &[u8], clog: &[u8], frames: &[u8]) -> Told
+    ensures { λ r. ⌜ toldBy r ≡ toldFor 4096 k Commit s (now (log .entry)) (now (db .entry)) (now (clog .entry)) (now (frames .entry)) ⌝ }
+{
+    let r = ready_commit(s, log, db, clog, frames);
+    told_at(r, k)
 }
