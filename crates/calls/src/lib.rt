@@ -1,5 +1,5 @@
 // The calls that have stores. Each is made ready first: its number, its stores as a plan, and the store after it; nothing is changed by that. Then it is carried
-// out, or cut at a store as if power went there, or its stores are counted. Every public function is total: its contract is one equation, which says the answer,
+// out, or cut at a store as if power went there, or its stores are counted or told. Every public function is total: its contract is one equation, which says the answer,
 // the store and every byte of the buffers.
 use fields::CommitTime;
 use fields::TransactionId;
