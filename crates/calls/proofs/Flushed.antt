@@ -1,14 +1,13 @@
 -- Laws of flush: inside a transaction, outside of one with the page resident or not; one law for each way out of making it ready. Assumes nothing.
-use Prim.Native.Nat.{ℕ, _≤_, _<_}
+use Prim.Native.Nat.{ℕ, zero, suc, _≤_, _<_}
 use native.Mathlib.Omega.{arith}
 use mathlib.Core.Path.{_≡_, refl, sym, ap, _∙_}
 use mathlib.Core.List.{List, [], _∷_}
 use mathlib.Core.Bool.{true, false, cond}
-use lib.ListN.{length, replicate}
+use lib.ListN.{length}
 use borrow.Author.Tests.{le-leb, lt-leb, lt-ltb}
 use Rattle.fields.proofs.Tests.{Order, less, most, order}
 use Rattle.wal.specs.Records.{image}
-use Rattle.meta.specs.declared.Counters.{Counters}
 use Rattle.frames.specs.declared.Marked.{Marked}
 use Rattle.frames.specs.declared.Place.{Place}
 use Rattle.frames.specs.declared.Place.the-variants.{At, Nowhere}
@@ -22,19 +21,23 @@ use Rattle.world.specs.World.{World, withMem, withTransaction, filesOf}
 use Rattle.world.specs.Steps as world
 use Rattle.world.specs.Calls.{Flush, steps, keeps, heldPage, flushSteps, flushKeeps}
 use Rattle.world.specs.Refusals.{isInstalled, argumentNo, callNo, frontNo}
+use Rattle.world.specs.Run.{decided}
 use Rattle.stores.specs.declared.Plan.{Plan}
 use Rattle.stores.specs.declared.Kind.the-variants as kind
-use Rattle.stores.specs.Plans as plans
-use Rattle.stores.specs.Plans.{tabulate, stepsOf, meaning, meant}
+use Rattle.stores.specs.Plans.{meant}
 use Rattle.stores.specs.Room.{numberFor}
+use Rattle.picks.specs.Picks.{seat}
+use Rattle.plans.specs.Planned.{planOf, noId, noTime, noCounters}
+use Rattle.plans.proofs.Meanings.{flush-means}
 use Rattle.form.specs.declared.Store.{Store}
-use Rattle.form.specs.Store.{residentOf, touchedOf, memOf, worldOf, laidStore}
+use Rattle.form.specs.Store.{residentOf, touchedOf, memOf, worldOf, laidStore, withArray}
 use Rattle.form.proofs.Arrays.{Sized}
 use Rattle.form.proofs.Front.{front-means, entries-length, resident-length, resident-are, touched-are, table-same, frames-same}
 use Rattle.form.proofs.Called.{quiet}
-use Rattle.calls.specs.declared.Ready.{Ready}
-use Rattle.calls.specs.Ready.{countersOf, onePage, remembered, readyFor, readied, idle}
-use Rattle.calls.proofs.Prepared.{ready-no, ready-none, ready-still, still-short, still-out}
+use Rattle.ready.specs.declared.Ready.{Ready}
+use Rattle.ready.specs.Ready.{remembered, readyFor, readied, idle, plain}
+use Rattle.calls.specs.Left.{markedAs}
+use Rattle.ready.proofs.Prepared.{ready-no, ready-none, ready-still, still-short, still-out}
 
 -- ---- by the transaction's place
 
@@ -60,12 +63,20 @@ module _ (P p : ℕ) (w : World) where
   keeps-out (Installed id) h = let z : _≡_ {A = ℕ} 0 1 = cc in absurd (omega arith)
   keeps-out Empty h = refl
 
--- ---- the stores of the plan
+-- ---- a page marked touched: 11, or with one page more
 
-plan-steps : (P p slot : ℕ) (s : Store) (frames : List ℕ) →
-    meant P frames (onePage p slot s) ≡ world.Log (image p (frameOf P frames slot)) ∷ world.Page p (frameOf P frames slot) ∷ []
-unfolding meant onePage stepsOf plans.flushSteps tabulate meaning
-plan-steps P p slot s frames = refl
+module _ (s : Store) (p : ℕ) (x : Marked) (is : x ≡ marked 64 (s .held .touched) p) (r : Ready) where
+  pub marked-full : r ≡ idle (x .number) s → (x .number ≡ 0 → ⊥) → r ≡ markedAs s p
+  unfolding markedAs
+  marked-full i h = i ∙ go (x .number) h ∙ rw (← is)
+    where
+      go : (n : ℕ) → (n ≡ 0 → ⊥) → idle n s ≡ decided n (idle 0 (withArray s (x .touched))) (idle n s)
+      go zero h = absurd (h refl)
+      go (suc n) h = refl
+
+  pub marked-fine : r ≡ idle 0 (withArray s (x .touched)) → x .number ≡ 0 → r ≡ markedAs s p
+  unfolding markedAs
+  marked-fine i h = i ∙ rw (← is, h)
 
 -- ---- the ways out
 
@@ -73,7 +84,7 @@ module _ (P p : ℕ) (s : Store) (log db clog frames : List ℕ) (e0 : frontNo P
   abbrev here : World
   here = worldOf s log db clog frames
 
-  pub flush-10 : (r : Ready) → r ≡ idle 10 s → 4294967295 ≤ p → readied P r frames ≡ readyFor P (Flush p) s log db clog frames
+  pub flush-10 : (r : Ready) → r ≡ idle 10 s → 4294967295 ≤ p → readied P r log db clog frames ≡ readyFor P (Flush p) s log db clog frames
   unfolding callNo argumentNo
   flush-10 r i h = ready-no P (Flush p) s log db clog frames e0 r 9 i (rw (le-leb 4294967295 p h))
 
@@ -84,7 +95,10 @@ module _ (P p : ℕ) (s : Store) (log db clog frames : List ℕ) (e0 : frontNo P
 
     -- ---- inside a transaction
 
-    module _ (inside : isInstalled (s .held .slot) ≡ true) (x : Marked) (is : x ≡ marked 64 (s .held .touched) p) where
+    module _ (inside : isInstalled (s .held .slot) ≡ true) where
+      abbrev x : Marked
+      x = marked 64 (s .held .touched) p
+
       abbrev more : List ℕ
       more = touch p (pages.touchedOf (s .held .touched))
 
@@ -109,29 +123,8 @@ module _ (P p : ℕ) (s : Store) (log db clog frames : List ℕ) (e0 : frontNo P
       unfolding callNo
       over l = rw (own, touched-is, lt-ltb 64 (length more) l)
 
-      pub flush-11 : (r : Ready) → r ≡ idle 11 s → (x .number ≡ 0 → ⊥) → readied P r frames ≡ readyFor P (Flush p) s log db clog frames
-      flush-11 r i h = go (order 64 (length more))
-        where
-          go : Order 64 (length more) → readied P r frames ≡ readyFor P (Flush p) s log db clog frames
-          go (less l) = ready-no P (Flush p) s log db clog frames e0 r 10 i (over l)
-          go (most l) = absurd (h (ap (λ (y : Marked). y .number) (is ∙ kept l)))
-
-      -- the store with the page marked
-      abbrev marking : Store
-      marking =
-          record {
-            lens = s .lens;
-            pages = s .pages;
-            next = s .next;
-            time = s .time;
-            mark = s .mark;
-            table = s .table;
-            frames = s .frames;
-            held = record { slot = s .held .slot; touched = x .touched };
-          }
-
-      marking-is : x .touched ≡ laidTouched (s .held .touched) more → remembered P (Flush p) s here ≡ marking
-      unfolding laidStore worldOf memOf
+      marking-is : x .touched ≡ laidTouched (s .held .touched) more → remembered P (Flush p) s here ≡ withArray s (x .touched)
+      unfolding laidStore worldOf memOf withArray
       marking-is e =
           let i = front-means P s log db clog frames e0 in
           ap (λ (v : World). laidStore s (record { files = here .files; frames = v .frames; mem = v .mem })) keeps-is
@@ -150,16 +143,19 @@ module _ (P p : ℕ) (s : Store) (log db clog frames : List ℕ) (e0 : frontNo P
           rw keeps-is (resident-length P s log db clog frames i) in
           quiet P (Flush p) s log db clog frames i own steps-none (rw touched-is l) t r
 
-      pub flush-in : (r : Ready) → r ≡ idle 0 marking → x .number ≡ 0 → readied P r frames ≡ readyFor P (Flush p) s log db clog frames
-      flush-in r i h = go (order 64 (length more))
+      -- 11, or the page is marked
+      pub flush-in : (r : Ready) → r ≡ markedAs s p → readied P r log db clog frames ≡ readyFor P (Flush p) s log db clog frames
+      unfolding markedAs
+      flush-in r i = go (order 64 (length more))
         where
-          go : Order 64 (length more) → readied P r frames ≡ readyFor P (Flush p) s log db clog frames
+          go : Order 64 (length more) → readied P r log db clog frames ≡ readyFor P (Flush p) s log db clog frames
           go (less l) =
-              let y : _≡_ {A = ℕ} 11 0 = sym (ap (λ (y : Marked). y .number) (is ∙ mark-no 64 (s .held .touched) p l)) ∙ h in
-              absurd (omega arith)
+              let e : marked 64 (s .held .touched) p .number ≡ 11 = ap (λ (y : Marked). y .number) (mark-no 64 (s .held .touched) p l) in
+              ready-no P (Flush p) s log db clog frames e0 r 10 (i ∙ rw e) (over l)
           go (most l) =
-              let e = ap (λ (y : Marked). y .touched) (is ∙ kept l) in
-              ready-none P (Flush p) s log db clog frames e0 r marking i steps-none (sym (marking-is e)) frames-in (none-in l)
+              let e : marked 64 (s .held .touched) p .number ≡ 0 = ap (λ (y : Marked). y .number) (kept l) in
+              let t : x .touched ≡ laidTouched (s .held .touched) more = ap (λ (y : Marked). y .touched) (kept l) in
+              ready-none P (Flush p) s log db clog frames e0 r (withArray s (x .touched)) (i ∙ rw e) steps-none (sym (marking-is t)) frames-in (none-in l)
 
     -- ---- outside
 
@@ -177,32 +173,24 @@ module _ (P p : ℕ) (s : Store) (log db clog frames : List ℕ) (e0 : frontNo P
       unfolding steps heldPage worldOf memOf
       steps-is = steps-out P p here (s .held .slot) outside
 
-      pub flush-absent : (r : Ready) → r ≡ idle 0 s → place ≡ Nowhere → readied P r frames ≡ readyFor P (Flush p) s log db clog frames
+      pub flush-absent : (r : Ready) → r ≡ idle 0 s → place ≡ Nowhere → readied P r log db clog frames ≡ readyFor P (Flush p) s log db clog frames
       flush-absent r i e =
           let n : isIn p (residentOf (s .frames)) ≡ false =
           rw resident-same (nowhere-means p (pages.residentOf (s .frames)) (sym (ap placeTold e) ∙ found)) in
           ready-still P (Flush p) s log db clog frames e0 z own keeps-same r i (steps-is ∙ rw n)
 
-      module _ (slot : ℕ) (at : place ≡ At slot) (plan : Plan) (planned : plan ≡ onePage p slot s) where
+      module _ (slot : ℕ) (at : place ≡ At slot) (plan : Plan) (planned : plan ≡ planOf kind.Flush noId noTime (seat p slot ∷ []) noCounters) where
         flush-steps : meant P frames plan ≡ steps P (Flush p) here
+        unfolding heldPage worldOf memOf
         flush-steps =
             let m = at-means p (pages.residentOf (s .frames)) slot (sym (ap placeTold at) ∙ found) in
             let b : isIn p (residentOf (s .frames)) ≡ true = rw resident-same (m .0) in
             let k : slot ≡ slotOf p (residentOf (s .frames)) = rw resident-same (m .1) in
-            ap (meant P frames) planned ∙ plan-steps P p slot s frames ∙ sym (steps-is ∙ rw (b, ← k))
+            ap (meant P frames) (planned ∙ ap (λ (j : ℕ). planOf kind.Flush noId noTime (seat p j ∷ []) noCounters) k) ∙ flush-means P here p ∙ sym (steps-is ∙ rw b)
 
         module _ (n : ℕ) (room : n ≡ numberFor P (meant P frames plan) (filesOf (s .lens) log db clog)) where
-          pub flush-short : (r : Ready) → r ≡ idle n s → (n ≡ 0 → ⊥) → readied P r frames ≡ readyFor P (Flush p) s log db clog frames
+          pub flush-short : (r : Ready) → r ≡ idle n s → (n ≡ 0 → ⊥) → readied P r log db clog frames ≡ readyFor P (Flush p) s log db clog frames
           flush-short r i h = still-short P (Flush p) s log db clog frames e0 z own keeps-same plan flush-steps n room r i h
 
-          pub flush-out : n ≡ 0 →
-              readied P (record { number = 0; meta = false; slot = 0; plan = plan; store = s }) frames ≡ readyFor P (Flush p) s log db clog frames
-          flush-out e = still-out P (Flush p) s log db clog frames e0 z own keeps-same plan flush-steps n room e
-
--- the plan as the code writes it
-pub page-out : (p slot : ℕ) (s : Store) (m : Counters) → m ≡ countersOf s →
-    _≡_ {A = Plan}
-    (record { kind = kind.Flush; id = s .next; time = s .time; pages = replicate 64 p; slots = replicate 64 slot; n = 1; meta = m }) (onePage p slot s)
-unfolding onePage
-page-out p slot s m e =
-    ap (λ (x : Counters). record { kind = kind.Flush; id = s .next; time = s .time; pages = replicate 64 p; slots = replicate 64 slot; n = 1; meta = x }) e
+          pub flush-out : (r : Ready) → r ≡ plain plan s → n ≡ 0 → readied P r log db clog frames ≡ readyFor P (Flush p) s log db clog frames
+          flush-out r i e = still-out P (Flush p) s log db clog frames e0 z own keeps-same plan flush-steps n room r i e

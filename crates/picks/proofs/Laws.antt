@@ -109,9 +109,9 @@ picked-next which list os ts i h =
     ∙ seats-append os (chosen which list os a) (chosen which list os (p ∷ []))
     ∙ ap (λ (l : List Seat). seatsOf os (chosen which list os a) ++ l) (one-seat which list os p))
 
-pub picked-none : (N : ℕ) (which : Which) (list os ts : List ℕ) → _≡_ {A = Picked} (record { pages = replicate N 0; slots = replicate N 0; n = 0 }) (pickedOf N (seatsOf os (chosen which list os (take 0 ts))))
-unfolding pickedOf chosen keep
-picked-none N which list os ts = let e : N - 0 ≡ N = omega arith in rw e
+pub picked-none : (N : ℕ) (which : Which) (list os ts : List ℕ) → pickedOf N [] ≡ pickedOf N (seatsOf os (chosen which list os (take 0 ts)))
+unfolding chosen keep
+picked-none N which list os ts = refl
 
 -- ---- the ways out of a turn
 

@@ -1,11 +1,13 @@
 // Which touched pages a call logs, writes or reverts: those that are resident, of these all, the data pages, or the catalog pages (1, 2 and a list), ascending
 // as they were touched, each with the slot of its frame.
+use fields::numbers;
 use frames::Frames;
 use frames::Place;
 use frames::Touched;
 ghost use mathlib.Core.Path.{_≡_};
+ghost use mathlib.Core.List.{[]};
 ghost use Prim.Native.Nat.{_<_, min};
-ghost use Rattle.frames.specs.Pages.{isIn, residentOf, touchedOf, placeTold};
+ghost use Rattle.frames.specs.Pages.{isIn, anyBad, residentOf, touchedOf, placeTold};
 ghost use Rattle.picks.specs.Picks.{wants, pickedOf, seatIf, grown, seatsOf, chosen};
 
 // The most touched pages.
@@ -24,6 +26,17 @@ pub struct Picked {
     pub n: usize,
 }
 
+// No page picked.
+pub fn none() -> Picked
+    ensures { λ r. ⌜ r ≡ pickedOf 64 [] ⌝ }
+{
+    Picked {
+        pages: [0; 64],
+        slots: [0; 64],
+        n: 0,
+    }
+}
+
 // Whether a page stands in a list, which may be long, unsorted and repeated.
 fn is_listed(list: &[u32], page: u32) -> bool
     ensures { λ r. ⌜ r ≡ isIn page (now (list .entry)) ⌝ }
@@ -31,6 +44,20 @@ fn is_listed(list: &[u32], page: u32) -> bool
     let mut i = 0;
     while i < list.len() {
         if list[i] == page {
+            return true;
+        }
+        i += 1;
+    }
+    false
+}
+
+// Whether a list names the page that no file has.
+pub fn any_bad(list: &[u32]) -> bool
+    ensures { λ r. ⌜ r ≡ anyBad (now (list .entry)) ⌝ }
+{
+    let mut i = 0;
+    while i < list.len() {
+        if numbers::NO_PAGE <= list[i] {
             return true;
         }
         i += 1;
@@ -93,11 +120,7 @@ pub fn pick(t: Touched, f: Frames, which: Which, list: &[u32]) -> Picked
     ensures { λ r. ⌜ r ≡ pickedOf 64 (seatsOf (residentOf f) (chosen which (now (list .entry)) (residentOf f) (touchedOf t))) ⌝ }
 {
     let n = held(t.count);
-    let mut p = Picked {
-        pages: [0; 64],
-        slots: [0; 64],
-        n: 0,
-    };
+    let mut p = none();
     let mut i = 0;
     while i < n {
         let page = t.pages[i];

@@ -27,12 +27,12 @@ use Rattle.plans.specs.Planned.{planOf, noId, noTime, noCounters, timed,
 
 -- ---- the pages of a plan are those that it was given, each with its slot
 
-page-at : (os ps zs : List ℕ) (i : ℕ) → i < length ps → getD (map (λ s. s .page) (seatsOf os ps) ++ zs) i 0 ≡ getD ps i 0
+pub page-at : (os ps zs : List ℕ) (i : ℕ) → i < length ps → getD (map (λ s. s .page) (seatsOf os ps) ++ zs) i 0 ≡ getD ps i 0
 page-at os [] zs i h = absurd (not-suc-le-zero h)
 page-at os (p ∷ ps) zs zero h = refl
 page-at os (p ∷ ps) zs (suc i) h = page-at os ps zs i (le-of-suc-le-suc h)
 
-slot-at : (os ps zs : List ℕ) (i : ℕ) → i < length ps → getD (map (λ s. s .slot) (seatsOf os ps) ++ zs) i 0 ≡ slotOf (getD ps i 0) os
+pub slot-at : (os ps zs : List ℕ) (i : ℕ) → i < length ps → getD (map (λ s. s .slot) (seatsOf os ps) ++ zs) i 0 ≡ slotOf (getD ps i 0) os
 slot-at os [] zs i h = absurd (not-suc-le-zero h)
 slot-at os (p ∷ ps) zs zero h = refl
 slot-at os (p ∷ ps) zs (suc i) h = slot-at os ps zs i (le-of-suc-le-suc h)

@@ -1,6 +1,6 @@
 // Runs calls on a store that holds nothing yet, and writes of each its number and the lengths of the files after it; of a commit and of a mark also how many
 // stores there will be, and of a commit what each of them is. The last calls read the page with the greatest number and ask for one more.
-use calls::Counted;
+use ready::Counted;
 use fields::Answer;
 use fields::CommitTime;
 use fields::TransactionId;
@@ -101,7 +101,7 @@ fn show(t: Telling) {
 fn commit_tellings(s: Store, log: &[u8], db: &[u8], clog: &[u8], frames: &[u8]) {
     let mut k: usize = 0;
     while k < 11 {
-        let told = calls::commit_told(s, k, log, db, clog, frames);
+        let told = settle::commit_told(s, k, log, db, clog, frames);
         word(b"store");
         number(k as u64);
         let t = told.telling;
@@ -117,13 +117,13 @@ fn empty_commit(
     clog: &mut [u8; 64],
     frames: &mut [u8; 16384],
 ) -> Store {
-    let none = calls::commit_count(s, &log[..], &db[..], &clog[..], &frames[..]);
+    let none = settle::commit_count(s, &log[..], &db[..], &clog[..], &frames[..]);
     counted(b"stores of a commit without a transaction", none);
     let begun = calls::begin(s, TransactionId(5), log, db, clog, frames);
     let a = answered(b"begin 5", begun);
-    let five = calls::commit_count(a, &log[..], &db[..], &clog[..], &frames[..]);
+    let five = settle::commit_count(a, &log[..], &db[..], &clog[..], &frames[..]);
     counted(b"stores of a commit of no page", five);
-    let done = calls::commit(a, log, db, clog, frames);
+    let done = settle::commit(a, log, db, clog, frames);
     answered(b"commit", done)
 }
 
@@ -155,10 +155,10 @@ fn full_commit(
     let a = answered(b"begin 6", begun);
     let b = touched(a, 4, 0x44, log, db, clog, frames);
     let c = touched(b, 3, 0x33, log, db, clog, frames);
-    let nine = calls::commit_count(c, &log[..], &db[..], &clog[..], &frames[..]);
+    let nine = settle::commit_count(c, &log[..], &db[..], &clog[..], &frames[..]);
     counted(b"stores of a commit of two pages", nine);
     commit_tellings(c, &log[..], &db[..], &clog[..], &frames[..]);
-    let done = calls::commit(c, log, db, clog, frames);
+    let done = settle::commit(c, log, db, clog, frames);
     answered(b"commit", done)
 }
 
@@ -176,7 +176,7 @@ fn marks(
     clog: &mut [u8; 64],
     frames: &mut [u8; 16384],
 ) -> Store {
-    let none = calls::advance_count(
+    let none = settle::advance_count(
         s,
         TransactionId(0),
         &log[..],
@@ -185,7 +185,7 @@ fn marks(
         &frames[..],
     );
     counted(b"stores of an equal mark", none);
-    let two = calls::advance_count(
+    let two = settle::advance_count(
         s,
         TransactionId(6),
         &log[..],
@@ -195,10 +195,10 @@ fn marks(
     );
     counted(b"stores of a higher mark", two);
     sums(&clog[..], &db[..]);
-    let equal = calls::advance(s, TransactionId(0), log, db, clog, frames);
+    let equal = settle::advance(s, TransactionId(0), log, db, clog, frames);
     let a = answered(b"advance 0", equal);
     sums(&clog[..], &db[..]);
-    let higher = calls::advance(a, TransactionId(6), log, db, clog, frames);
+    let higher = settle::advance(a, TransactionId(6), log, db, clog, frames);
     let b = answered(b"advance 6", higher);
     sums(&clog[..], &db[..]);
     b

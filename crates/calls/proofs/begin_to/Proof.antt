@@ -1,8 +1,8 @@
 -- `calls::begin_to` meets its contract: made ready, and cut. Assumes nothing.
 use mathlib.Core.Path.{ap, _∙_}
 use Rattle.world.specs.Calls.{Begin}
-use Rattle.calls.specs.Ready.{Prepared, cutAt}
-use Rattle.calls.proofs.Prepared.{ready-cut}
+use Rattle.ready.specs.Ready.{Prepared, cutAt}
+use Rattle.ready.proofs.Prepared.{ready-cut}
 use borrow.Author.Needs.{needs}
 use Rattle.calls.proofs.begin_to.Statement.{statement}
 use Rattle.calls.proofs.begin_to.Tie as tie

@@ -1,7 +1,7 @@
 -- `calls::begin_told` meets its contract: made ready, and told. Assumes nothing.
 use native.Mathlib.Omega.{arith}
 use Rattle.world.specs.Calls.{Begin}
-use Rattle.calls.proofs.ToldLaws.{told-done}
+use Rattle.ready.proofs.ToldLaws.{told-done}
 use borrow.Author.Needs.{needs}
 use Rattle.calls.proofs.begin_told.Statement.{statement}
 use Rattle.calls.proofs.begin_told.Tie as tie

@@ -1,8 +1,8 @@
 -- `calls::flush` meets its contract: made ready, and carried out. Assumes nothing.
 use mathlib.Core.Path.{ap, _∙_}
 use Rattle.world.specs.Calls.{Flush}
-use Rattle.calls.specs.Ready.{Prepared, carriedOut}
-use Rattle.calls.proofs.Prepared.{ready-called}
+use Rattle.ready.specs.Ready.{Prepared, carriedOut}
+use Rattle.ready.proofs.Prepared.{ready-called}
 use borrow.Author.Needs.{needs}
 use Rattle.calls.proofs.flush.Statement.{statement}
 use Rattle.calls.proofs.flush.Tie as tie

@@ -1,7 +1,7 @@
 -- `calls::flush_told` meets its contract: made ready, and told. Assumes nothing.
 use native.Mathlib.Omega.{arith}
 use Rattle.world.specs.Calls.{Flush}
-use Rattle.calls.proofs.ToldLaws.{told-done}
+use Rattle.ready.proofs.ToldLaws.{told-done}
 use borrow.Author.Needs.{needs}
 use Rattle.calls.proofs.flush_told.Statement.{statement}
 use Rattle.calls.proofs.flush_told.Tie as tie

@@ -21,8 +21,13 @@ abbrev μ-loop : tie.MeasureT-loop
 held-requires : tie.Need-held-requires Inv-loop μ-loop
 held-requires c κs = search needs
 
+none-requires : tie.Need-none-requires Inv-loop μ-loop
+none-requires c κs = search needs
+
 loop-holds : tie.Need-loop-holds Inv-loop μ-loop
-loop-holds c = let a = c .before .before .args in (omega arith, picked-none 64 (a .which) (a .list .now) (residentOf (a .f)) (a .t1 .pages))
+loop-holds c =
+    let a = c .before .before .before .args in
+    (omega arith, c .none .ensures ∙ picked-none 64 (a .which) (a .list .now) (residentOf (a .f)) (a .t1 .pages))
 
 mul-page : tie.Need-mul-page Inv-loop μ-loop
 mul-page c = search needs
@@ -38,7 +43,7 @@ wanted-requires c κs = search needs
 
 with-page-requires : tie.Need-with-page-requires Inv-loop μ-loop
 with-page-requires c κs =
-    let a = c .before .before .before .before .before .before .before .args in
+    let a = c .before .before .before .before .before .before .before .before .args in
     let l = c .before .before .before .before .loop in
     omega (arith, picked-small 64 (a .which) (a .list .now) (residentOf (a .f)) (a .t1 .pages) (l .i) (l .p) (l .inv .1))
 
@@ -50,7 +55,7 @@ loop-less c = search needs
 
 loop-again : tie.Need-loop-again Inv-loop μ-loop
 loop-again c =
-    let a = c .before .before .before .before .before .before .before .before .args in
+    let a = c .before .before .before .before .before .before .before .before .before .args in
     let l = c .before .before .before .before .before .loop in
     let n : length (a .t1 .pages) ≡ 64 = search needs in (
       omega arith,
@@ -60,12 +65,12 @@ loop-again c =
 
 returns : tie.Need-returns Inv-loop μ-loop
 returns c =
-    let a = c .before .before .before .before .args in
+    let a = c .before .before .before .before .before .args in
     let l = c .before .loop in
     let n : length (a .t1 .pages) ≡ 64 = search needs in
-    let h = c .before .before .held .result in
+    let h = c .before .before .before .held .result in
     let e : l .i ≡ h = omega arith in
-    l .inv .1 ∙ ap (λ (k : ℕ). pickedOf 64 (seatsOf (residentOf (a .f)) (chosen (a .which) (a .list .now) (residentOf (a .f)) (take k (a .t1 .pages))))) (e ∙ c .before .before .held .ensures)
+    l .inv .1 ∙ ap (λ (k : ℕ). pickedOf 64 (seatsOf (residentOf (a .f)) (chosen (a .which) (a .list .now) (residentOf (a .f)) (take k (a .t1 .pages))))) (e ∙ c .before .before .before .held .ensures)
     ∙ ap (λ (xs : List ℕ). pickedOf 64 (seatsOf (residentOf (a .f)) (chosen (a .which) (a .list .now) (residentOf (a .f)) xs))) (take-min (a .t1 .pages) (a .t1 .count) 64 n)
 
 pub pick-spec : {M : Type 1} → statement M
@@ -75,6 +80,7 @@ pick-spec =
     Inv-loop
     μ-loop
     held-requires
+    none-requires
     loop-holds
     mul-page
     element-copy-out-page

@@ -1,0 +1,3 @@
+-- The laws of the crate's definitions.
+pub mod Prepared
+pub mod ToldLaws

@@ -1,0 +1,6 @@
+-- The laws of the crate's definitions.
+pub mod Sealed
+pub mod Advanced
+pub mod Committed
+pub mod GivenBack
+pub mod RolledBack

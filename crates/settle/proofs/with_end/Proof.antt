@@ -1,0 +1,12 @@
+-- `settle::with_end` meets its contract. Assumes nothing.
+use mathlib.Core.Path.{refl}
+use Rattle.settle.specs.Sealed.{endedStore}
+use Rattle.settle.proofs.with_end.Statement.{statement}
+use Rattle.settle.proofs.with_end.Tie as tie
+
+returns : tie.Need-returns
+unfolding endedStore
+returns c = refl
+
+pub with-end-spec : {M : Type 1} → statement M
+with-end-spec = tie.close (tie.spec returns)

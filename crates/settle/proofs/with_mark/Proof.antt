@@ -1,0 +1,12 @@
+-- `settle::with_mark` meets its contract. Assumes nothing.
+use mathlib.Core.Path.{refl}
+use Rattle.settle.specs.Sealed.{markedStore}
+use Rattle.settle.proofs.with_mark.Statement.{statement}
+use Rattle.settle.proofs.with_mark.Tie as tie
+
+returns : tie.Need-returns
+unfolding markedStore
+returns c = refl
+
+pub with-mark-spec : {M : Type 1} → statement M
+with-mark-spec = tie.close (tie.spec returns)
