@@ -24,10 +24,6 @@ use Rattle.clog.specs.Slots.{codeOf, withBits, setSlot, clearSlots, cleared}
 use Rattle.clog.specs.Calls as clog
 use Rattle.clog.specs.Calls.{recordNo, compactNo, recorded, compacted}
 use Rattle.clog.proofs.Theorems.{recorded-plain, compacted-plain}
-use Rattle.meta.specs.Page.{metaPage}
-use Rattle.meta.proofs.Laws.{length-meta}
-use Rattle.frames.specs.Copies.{frameOf}
-use Rattle.frames.proofs.CopyLaws.{length-frame}
 use Rattle.world.specs.World.{Files, filesOf}
 use Rattle.world.specs.Steps as world
 use Rattle.world.specs.Steps.{apply, withLog, withDb, withClog, logBytes, dbEnd, clogEnd, sumOf, mostOf}
@@ -53,6 +49,10 @@ pub page-file : (P at end len : ℕ) (bytes db d₁ d₂ : List ℕ) → length 
 unfolding lay
 page-file P at end len bytes db d₁ d₂ l p q e = rw (q, p, e, l)
 
+-- page 0 leaves no gap
+pub meta-file : (P n len : ℕ) (ys db bytes : List ℕ) → length ys ≡ P → bytes ≡ sets db 0 ys → n ≡ max len P → fileOf bytes n ≡ lay (fileOf db len) 0 ys
+meta-file P n len ys db bytes l q m = rw (lay-within (fileOf db len) 0 ys (omega arith), q, m, l) (ap (λ (k : ℕ). fileOf (sets db 0 ys) (max len k)) (omega arith))
+
 pub whole-frame : (P : ℕ) (b frames : List ℕ) (at slot n : ℕ) (out : List ℕ) → n ≡ P → slot * P + P ≤ length frames → out ≡ sets b at (take n (drop (slot * P) frames)) → out ≡ sets b at (part P frames (slot * P))
 whole-frame P b frames at slot n out e h q = q ∙ ap (λ (m : ℕ). sets b at (take m (drop (slot * P) frames))) e ∙ sym (ap (λ (ys : List ℕ). sets b at ys) (part-in P frames (slot * P) h))
 
@@ -75,13 +75,6 @@ module _ (P : ℕ) (f : Files) (s : world.Step) where
   pub db-file : (p : ℕ) (ys : List ℕ) (n : ℕ) (bytes : List ℕ) → s ≡ world.Page p ys → fileOf bytes n ≡ lay (f .db) (p * P) ys → dbOut n bytes ≡ apply P s f
   unfolding apply
   db-file p ys n bytes e q = ap (λ (g : File). withDb g f) q ∙ sym (ap (λ (x : world.Step). apply P x f) e)
-
-  -- page 0 leaves no gap
-  pub meta-file : (ys : List ℕ) (n : ℕ) (bytes : List ℕ) → s ≡ world.Page 0 ys → length ys ≡ P → bytes ≡ sets (f .db .bytes) 0 ys → n ≡ max (f .db .len) P → dbOut n bytes ≡ apply P s f
-  meta-file ys n bytes e l q m =
-      let z : 0 * P ≡ 0 = omega arith in
-      let g : fileOf bytes n ≡ lay (f .db) (0 * P) ys = rw (z, lay-within (f .db) 0 ys (omega arith), q, m, l) (ap (λ (k : ℕ). fileOf (sets (f .db .bytes) 0 ys) (max (f .db .len) k)) (omega arith)) in
-      db-file 0 ys n bytes e g
 
   module _ (enough : Enough P (s ∷ []) f) where
     log-room : (r : Record) → s ≡ world.Log r → f .log .len + length (encode r) ≤ room (f .log)
