@@ -14,7 +14,7 @@ use Rattle.fields.specs.Bytes.{part}
 use Rattle.fields.specs.Files.{File, fileOf, room, lay, append, header, unfit}
 use Rattle.fields.specs.Answers.{outcome, decided}
 use Rattle.fields.proofs.ByteLaws.{part-in}
-use Rattle.fields.proofs.FileLaws.{lay-room, lay-len, lay-within, append-is, header-room, header-len, unfit-len}
+use Rattle.fields.proofs.FileLaws.{lay-room, lay-len, lay-within, append-is, header-room, header-len, fit-ok}
 use Rattle.fields.proofs.AnswerLaws.{outcome-same, outcome-accepted}
 use Rattle.wal.specs.Records.{Record, image, encode, logMagic}
 use Rattle.wal.specs.Writing.{badPage, appendNo, appendedBytes, appended, truncateNo, truncated}
@@ -23,6 +23,7 @@ use Rattle.table.specs.declared.Status.{Status}
 use Rattle.clog.specs.Slots.{codeOf, withBits, setSlot, clearSlots, cleared}
 use Rattle.clog.specs.Calls as clog
 use Rattle.clog.specs.Calls.{recordNo, compactNo, recorded, compacted}
+use Rattle.clog.proofs.Refusals as clog-laws
 use Rattle.clog.proofs.Theorems.{recorded-plain, compacted-plain}
 use Rattle.world.specs.World.{Files, filesOf}
 use Rattle.world.specs.Steps as world
@@ -36,9 +37,6 @@ accepted-file a bytes n old new e z =
     let q : outcome a bytes ≡ outcome (Accepted (new .len)) (new .bytes) = e ∙ sym (outcome-accepted (new .len) n old new (new .bytes) z refl) in
     let s = outcome-same a (Accepted (new .len)) bytes (new .bytes) q in
     ap (λ (x : Answer). fileOf bytes (lengthOf x)) (s .0) ∙ ap (λ (l : List ℕ). fileOf l (new .len)) (s .1)
-
-fits : (limit size len : ℕ) → size ≤ limit → len ≤ size → unfit limit size len ≡ false
-fits limit size len h l = sym (unfit-len limit size len h) ∙ le-ltb size len l
 
 -- a page's frame, laid into the log after its tag and number, and into the database
 pub image-file : (P : ℕ) (page : ℕ) (bytes log out : List ℕ) (len : ℕ) → length bytes ≡ P → out ≡ sets log len (encode (image page bytes)) → fileOf out (len + (5 + P)) ≡ append (fileOf log len) (encode (image page bytes))
@@ -83,7 +81,7 @@ module _ (P : ℕ) (f : Files) (s : world.Step) where
 
     log-fit : unfit 16777216 (room (f .log)) (f .log .len) ≡ false
     unfolding sumOf
-    log-fit = fits 16777216 (room (f .log)) (f .log .len) (enough .logLimit) (omega (arith, enough .logFits))
+    log-fit = fit-ok 16777216 (room (f .log)) (f .log .len) (enough .logLimit) (omega (arith, enough .logFits))
 
     -- an image is P bytes and five more
     pub image-room : (p : ℕ) (ys : List ℕ) → s ≡ world.Log (image p ys) → length ys ≡ P → f .log .len + (5 + P) ≤ room (f .log)
@@ -106,8 +104,7 @@ module _ (P : ℕ) (f : Files) (s : world.Step) where
         ap (λ (h : File). withLog h f) (ap (λ (k : ℕ). fileOf bytes k) q ∙ g) ∙ sym (ap (λ (x : world.Step). apply P x f) e)
 
     clog-fit : clog.unfit 8 (room (f .clog)) (f .clog .len) ≡ false
-    unfolding clog.unfit
-    clog-fit = rw (le-ltb 1048576 (room (f .clog)) (enough .clogLimit), le-ltb (room (f .clog)) (f .clog .len) (enough .clogLen), le-ltb (f .clog .len) 8 (enough .clogHeader))
+    clog-fit = clog-laws.fit-ok 8 (room (f .clog)) (f .clog .len) (enough .clogLimit) (enough .clogLen) (enough .clogHeader)
 
     pub slot-done : (id : ℕ) (t : Status) (a : Answer) (n : ℕ) (bytes : List ℕ) → s ≡ world.SetSlot id t → outcome a bytes ≡ recorded 8 0 (f .clog) id (codeOf t) → n ≡ lengthOf a → clogOut n bytes ≡ apply P s f
     unfolding recordNo apply mostOf
