@@ -5,6 +5,7 @@ use mathlib.Core.List.{List, [], _∷_}
 use mathlib.Core.Bool.{Bool, cond, _||_}
 use lib.ListN.{set}
 use lib.Dec.{ltb, leb, eqb}
+use Rattle.fields.specs.Files as files
 use Rattle.fields.specs.Files.{File, content, room, header}
 use Rattle.fields.specs.Answers.{Told, told, Outcome, decided}
 use Rattle.table.specs.declared.Table.{Table}
@@ -17,7 +18,7 @@ use Rattle.clog.specs.Slots.{clogMagic, openClog, setSlot, clearSlots, e
 
 -- 1: the buffer over 1,048,576, a length over its buffer, a length under the least one
 unfoldable pub unfit : ℕ → ℕ → ℕ → Bool
-unfit least size len = ltb 1048576 size || ltb size len || ltb len least
+unfit least size len = files.unfit 1048576 size len || ltb len least
 
 -- open and reset take any length; 6: the buffer cannot hold the header
 unfoldable pub resetNo : ℕ → ℕ → ℕ

@@ -117,10 +117,7 @@ fn code_of(s: Status) -> u8
 fn bad_length(least: usize, size: usize, len: usize) -> bool
     ensures { λ r. ⌜ r ≡ unfit least size len ⌝ }
 {
-    if numbers::CLOG_LIMIT < size {
-        return true;
-    }
-    if size < len {
+    if fields::is_unfit(numbers::CLOG_LIMIT, size, len) {
         return true;
     }
     len < least

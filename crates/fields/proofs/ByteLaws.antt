@@ -6,7 +6,7 @@ use native.Mathlib.Nat.{one-le-pow, pow-suc, pow-zero, pow-le-pow-right, div-lt-
 use native.Mathlib.Omega.{arith}
 use lib.Dec.{lit<, lit≤}
 use lib.ListN.{length, take, drop, getD, replicate, length-append, length-take, length-drop, length-replicate}
-use lib.Seq.{drop-cons, drop-length, getD-take, getD-drop, length-take-le, take-append-le}
+use lib.Seq.{drop-cons, drop-length, getD-take, getD-drop, length-take-le, take-append-le, take-all}
 use Rattle.fields.specs.Bytes.{leOf, bytesOf, Bytes, part}
 use Rattle.fields.proofs.Tests.{Order, less, most, order}
 
@@ -67,6 +67,9 @@ length-part n xs at = length-take-le n (drop at xs ++ replicate n 0) (rw (length
 pub part-in : (n : ℕ) (xs : List ℕ) (at : ℕ) → at + n ≤ length xs → part n xs at ≡ take n (drop at xs)
 unfolding part
 part-in n xs at h = take-append-le n (drop at xs) (replicate n 0) (rw length-drop (omega arith))
+
+pub part-whole : (n : ℕ) (xs : List ℕ) → length xs ≡ n → part n xs 0 ≡ xs
+part-whole n xs e = part-in n xs 0 (omega arith) ∙ take-all n xs (omega arith)
 
 -- ---- a turn of the loop that reads: the byte below those that are read becomes the low byte
 

@@ -130,3 +130,6 @@ module _ (limit size len : ℕ) where
   pub unfit-len : size ≤ limit → ltb size len ≡ unfit limit size len
   unfolding unfit
   unfit-len h = rw (le-ltb limit size h)
+
+  pub fit-ok : size ≤ limit → len ≤ size → unfit limit size len ≡ false
+  fit-ok h l = sym (unfit-len h) ∙ le-ltb size len l

@@ -10,7 +10,7 @@ use native.Mathlib.Omega.{arith}
 use borrow.Author.Tests.{eq-eqb, ne-eqb, eqb-true}
 use lib.Dec.{eqb}
 use lib.ListN.{length, take, drop, getD, set, replicate, length-set, length-drop, length-replicate, drop-of-length-le}
-use lib.Seq.{sets, length-sets, set-out, drop-cons, take-all, getD-set-same, getD-set-other}
+use lib.Seq.{sets, length-sets, set-out, drop-cons, take-all, getD-set-same, getD-set-other, ext-getD}
 use Rattle.fields.specs.Bytes.{bytesOf, starts}
 use Rattle.fields.proofs.Tests.{Order, less, most, order, both}
 use Rattle.fields.proofs.ByteLaws.{length-bytesOf}
@@ -59,6 +59,17 @@ sets-in (y ∷ ys) xs at i h l r = go (order at i) (sets-in ys (set xs at y) (su
         let z : i - at ≡ 0 = omega arith in
         let q : at < length xs = omega arith in
         rw z (sets-before ys (set xs at y) (suc at) i (omega arith) ∙ rw e (getD-set-same xs at y 0 q))
+
+-- bytes that cover those stored there before are all that is left of the two
+pub sets-again : (xs ys l : List ℕ) (i : ℕ) → length xs ≤ length ys → sets (sets l i xs) i ys ≡ sets l i ys
+sets-again xs ys l i h =
+    let n : length (sets (sets l i xs) i ys) ≡ length l = length-sets (sets l i xs) i ys ∙ length-sets l i xs in
+    ext-getD 0 (sets (sets l i xs) i ys) (sets l i ys) (n ∙ sym (length-sets l i ys)) (λ j q. go j (omega (arith, q, n)) (order j i) (order j (i + length ys)))
+  where
+    go : (j : ℕ) → j < length l → Order j i → Order j (i + length ys) → getD (sets (sets l i xs) i ys) j 0 ≡ getD (sets l i ys) j 0
+    go j q (less a) b = sets-before ys (sets l i xs) i j a ∙ sets-before xs l i j a ∙ sym (sets-before ys l i j a)
+    go j q (most a) (less b) = sets-in ys (sets l i xs) i j a b (rw length-sets q) ∙ sym (sets-in ys l i j a b q)
+    go j q (most a) (most b) = sets-after ys (sets l i xs) i j b ∙ sets-after xs l i j (omega arith) ∙ sym (sets-after ys l i j b)
 
 -- ---- the loops that store: a turn, and the end, for any bytes that are left
 

@@ -4,15 +4,15 @@ use native.Mathlib.Omega.{arith}
 use mathlib.Core.Path.{_≡_, refl, sym, ap, subst, _∙_}
 use mathlib.Core.List.{List, [], _∷_}
 use mathlib.Core.Bool.{Bool, true, false, cond}
-use lib.ListN.{length, getD, replicate, length-append}
+use lib.ListN.{length, replicate, length-append}
 use lib.Dec.{ltb}
-use lib.Seq.{sets, length-sets, take-all, ext-getD}
+use lib.Seq.{sets, length-sets}
 use borrow.Author.Tests.{le-leb, lt-leb, le-ltb, lt-ltb}
 use Rattle.fields.specs.Bytes.{part}
 use Rattle.fields.specs.Files.{fileOf}
 use Rattle.fields.proofs.Tests.{Order, less, most, order}
-use Rattle.fields.proofs.ByteLaws.{part-in}
-use Rattle.fields.proofs.Stored.{sets-before, sets-after, sets-in}
+use Rattle.fields.proofs.ByteLaws.{part-whole}
+use Rattle.fields.proofs.Stored.{sets-again}
 use Rattle.frames.specs.declared.Seated.{Seated}
 use Rattle.frames.specs.declared.Place.{Place}
 use Rattle.frames.specs.declared.Place.the-variants.{At, Nowhere}
@@ -33,23 +33,6 @@ use Rattle.form.proofs.Front.{InForm, front-means, entries-length, touched-leng
 use Rattle.form.proofs.Called.{accepted, refused, quiet-is, handed-accepted, handed-refused}
 use Rattle.quiet.specs.declared.Seat.{Seat}
 use Rattle.quiet.specs.Handed.{pageRead, seatOf}
-
--- ---- bytes stored over bytes
-
--- what is stored last at a place stands there alone, where it is as long as what stood before
-pub sets-over : (l xs ys : List ℕ) (at : ℕ) → length xs ≡ length ys → sets (sets l at xs) at ys ≡ sets l at ys
-sets-over l xs ys at e =
-    let n : length (sets (sets l at xs) at ys) ≡ length l = length-sets (sets l at xs) at ys ∙ length-sets l at xs in
-    ext-getD 0 (sets (sets l at xs) at ys) (sets l at ys) (n ∙ sym (length-sets l at ys)) (λ i q.
-    go i (omega (arith, q, n)) (order i at) (order i (at + length ys)))
-  where
-    go : (i : ℕ) → i < length l → Order i at → Order i (at + length ys) → getD (sets (sets l at xs) at ys) i 0 ≡ getD (sets l at ys) i 0
-    go i q (less a) o = sets-before ys (sets l at xs) at i a ∙ sets-before xs l at i a ∙ sym (sets-before ys l at i a)
-    go i q (most a) (less b) = sets-in ys (sets l at xs) at i a b (rw length-sets q) ∙ sym (sets-in ys l at i a b q)
-    go i q (most a) (most b) = sets-after ys (sets l at xs) at i b ∙ sets-after xs l at i (omega arith) ∙ sym (sets-after ys l at i b)
-
-pub part-all : (n : ℕ) (xs : List ℕ) → length xs ≡ n → part n xs 0 ≡ xs
-part-all n xs e = part-in n xs 0 (omega arith) ∙ take-all n xs (omega arith)
 
 -- ---- a page's seat: it has one, it takes the next frame, or there is none
 
@@ -373,7 +356,7 @@ module _ (P : ℕ) (p : ℕ) (bytes : List ℕ) (s : Store) (log db clog frames 
   write-frames : length bytes ≡ P → sets frames (slotOf p (residentOf (s .frames)) * P) bytes ≡ done P (Write p bytes) (worldOf s log db clog frames) .frames
   unfolding done keeps write seat worldOf memOf
   write-frames len =
-      rw (with-slot p (residentOf (s .frames)), part-all P bytes len) (go (isIn p (residentOf (s .frames))) refl)
+      rw (with-slot p (residentOf (s .frames)), part-whole P bytes len) (go (isIn p (residentOf (s .frames))) refl)
     where
       go : (b : Bool) → isIn p (residentOf (s .frames)) ≡ b →
           sets frames (slotOf p (residentOf (s .frames)) * P) bytes ≡
@@ -383,7 +366,7 @@ module _ (P : ℕ) (p : ℕ) (bytes : List ℕ) (s : Store) (log db clog frames 
       go false h =
           let f = fileOf db (s .lens .db) in
           rw (slot-absent p (residentOf (s .frames)) h)
-          (sym (sets-over frames (pageOf P f p) bytes (length (residentOf (s .frames)) * P) (length-page P f p ∙ sym len)))
+          (sym (sets-again (pageOf P f p) bytes frames (length (residentOf (s .frames)) * P) (omega (arith, length-page P f p))))
 
   write-called : refuses P (Write p bytes) (worldOf s log db clog frames) ≡ 0 →
       outcome (record { number = 0; store = laidStore s (done P (Write p bytes) (worldOf s log db clog frames)) }) log db clog

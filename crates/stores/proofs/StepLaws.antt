@@ -14,7 +14,7 @@ use Rattle.fields.specs.Bytes.{part}
 use Rattle.fields.specs.Files.{File, fileOf, room, lay, append, header, unfit}
 use Rattle.fields.specs.Answers.{outcome, decided}
 use Rattle.fields.proofs.ByteLaws.{part-in}
-use Rattle.fields.proofs.FileLaws.{lay-room, lay-len, lay-within, append-is, header-room, header-len, unfit-len}
+use Rattle.fields.proofs.FileLaws.{lay-room, lay-len, lay-within, append-is, header-room, header-len, fit-ok}
 use Rattle.fields.proofs.AnswerLaws.{outcome-same, outcome-accepted}
 use Rattle.wal.specs.Records.{Record, image, encode, logMagic}
 use Rattle.wal.specs.Writing.{badPage, appendNo, appendedBytes, appended, truncateNo, truncated}
@@ -23,11 +23,8 @@ use Rattle.table.specs.declared.Status.{Status}
 use Rattle.clog.specs.Slots.{codeOf, withBits, setSlot, clearSlots, cleared}
 use Rattle.clog.specs.Calls as clog
 use Rattle.clog.specs.Calls.{recordNo, compactNo, recorded, compacted}
+use Rattle.clog.proofs.Refusals as clog-laws
 use Rattle.clog.proofs.Theorems.{recorded-plain, compacted-plain}
-use Rattle.meta.specs.Page.{metaPage}
-use Rattle.meta.proofs.Laws.{length-meta}
-use Rattle.frames.specs.Copies.{frameOf}
-use Rattle.frames.proofs.CopyLaws.{length-frame}
 use Rattle.world.specs.World.{Files, filesOf}
 use Rattle.world.specs.Steps as world
 use Rattle.world.specs.Steps.{apply, withLog, withDb, withClog, logBytes, dbEnd, clogEnd, sumOf, mostOf}
@@ -41,9 +38,6 @@ accepted-file a bytes n old new e z =
     let s = outcome-same a (Accepted (new .len)) bytes (new .bytes) q in
     ap (λ (x : Answer). fileOf bytes (lengthOf x)) (s .0) ∙ ap (λ (l : List ℕ). fileOf l (new .len)) (s .1)
 
-fits : (limit size len : ℕ) → size ≤ limit → len ≤ size → unfit limit size len ≡ false
-fits limit size len h l = sym (unfit-len limit size len h) ∙ le-ltb size len l
-
 -- a page's frame, laid into the log after its tag and number, and into the database
 pub image-file : (P : ℕ) (page : ℕ) (bytes log out : List ℕ) (len : ℕ) → length bytes ≡ P → out ≡ sets log len (encode (image page bytes)) → fileOf out (len + (5 + P)) ≡ append (fileOf log len) (encode (image page bytes))
 image-file P page bytes log out len l e =
@@ -52,6 +46,10 @@ image-file P page bytes log out len l e =
 pub page-file : (P at end len : ℕ) (bytes db d₁ d₂ : List ℕ) → length bytes ≡ P → d₁ ≡ sets db len (replicate (at - len) 0) → d₂ ≡ sets d₁ at bytes → end ≡ max len (at + P) → fileOf d₂ end ≡ lay (fileOf db len) at bytes
 unfolding lay
 page-file P at end len bytes db d₁ d₂ l p q e = rw (q, p, e, l)
+
+-- page 0 leaves no gap
+pub meta-file : (P n len : ℕ) (ys db bytes : List ℕ) → length ys ≡ P → bytes ≡ sets db 0 ys → n ≡ max len P → fileOf bytes n ≡ lay (fileOf db len) 0 ys
+meta-file P n len ys db bytes l q m = rw (lay-within (fileOf db len) 0 ys (omega arith), q, m, l) (ap (λ (k : ℕ). fileOf (sets db 0 ys) (max len k)) (omega arith))
 
 pub whole-frame : (P : ℕ) (b frames : List ℕ) (at slot n : ℕ) (out : List ℕ) → n ≡ P → slot * P + P ≤ length frames → out ≡ sets b at (take n (drop (slot * P) frames)) → out ≡ sets b at (part P frames (slot * P))
 whole-frame P b frames at slot n out e h q = q ∙ ap (λ (m : ℕ). sets b at (take m (drop (slot * P) frames))) e ∙ sym (ap (λ (ys : List ℕ). sets b at ys) (part-in P frames (slot * P) h))
@@ -76,13 +74,6 @@ module _ (P : ℕ) (f : Files) (s : world.Step) where
   unfolding apply
   db-file p ys n bytes e q = ap (λ (g : File). withDb g f) q ∙ sym (ap (λ (x : world.Step). apply P x f) e)
 
-  -- page 0 leaves no gap
-  pub meta-file : (ys : List ℕ) (n : ℕ) (bytes : List ℕ) → s ≡ world.Page 0 ys → length ys ≡ P → bytes ≡ sets (f .db .bytes) 0 ys → n ≡ max (f .db .len) P → dbOut n bytes ≡ apply P s f
-  meta-file ys n bytes e l q m =
-      let z : 0 * P ≡ 0 = omega arith in
-      let g : fileOf bytes n ≡ lay (f .db) (0 * P) ys = rw (z, lay-within (f .db) 0 ys (omega arith), q, m, l) (ap (λ (k : ℕ). fileOf (sets (f .db .bytes) 0 ys) (max (f .db .len) k)) (omega arith)) in
-      db-file 0 ys n bytes e g
-
   module _ (enough : Enough P (s ∷ []) f) where
     log-room : (r : Record) → s ≡ world.Log r → f .log .len + length (encode r) ≤ room (f .log)
     unfolding sumOf
@@ -90,7 +81,7 @@ module _ (P : ℕ) (f : Files) (s : world.Step) where
 
     log-fit : unfit 16777216 (room (f .log)) (f .log .len) ≡ false
     unfolding sumOf
-    log-fit = fits 16777216 (room (f .log)) (f .log .len) (enough .logLimit) (omega (arith, enough .logFits))
+    log-fit = fit-ok 16777216 (room (f .log)) (f .log .len) (enough .logLimit) (omega (arith, enough .logFits))
 
     -- an image is P bytes and five more
     pub image-room : (p : ℕ) (ys : List ℕ) → s ≡ world.Log (image p ys) → length ys ≡ P → f .log .len + (5 + P) ≤ room (f .log)
@@ -113,8 +104,7 @@ module _ (P : ℕ) (f : Files) (s : world.Step) where
         ap (λ (h : File). withLog h f) (ap (λ (k : ℕ). fileOf bytes k) q ∙ g) ∙ sym (ap (λ (x : world.Step). apply P x f) e)
 
     clog-fit : clog.unfit 8 (room (f .clog)) (f .clog .len) ≡ false
-    unfolding clog.unfit
-    clog-fit = rw (le-ltb 1048576 (room (f .clog)) (enough .clogLimit), le-ltb (room (f .clog)) (f .clog .len) (enough .clogLen), le-ltb (f .clog .len) 8 (enough .clogHeader))
+    clog-fit = clog-laws.fit-ok 8 (room (f .clog)) (f .clog .len) (enough .clogLimit) (enough .clogLen) (enough .clogHeader)
 
     pub slot-done : (id : ℕ) (t : Status) (a : Answer) (n : ℕ) (bytes : List ℕ) → s ≡ world.SetSlot id t → outcome a bytes ≡ recorded 8 0 (f .clog) id (codeOf t) → n ≡ lengthOf a → clogOut n bytes ≡ apply P s f
     unfolding recordNo apply mostOf

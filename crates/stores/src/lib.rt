@@ -15,13 +15,14 @@ ghost use lib.Seq.{sets};
 ghost use Rattle.fields.specs.Bytes.{part};
 ghost use Rattle.fields.specs.Files.{fileOf, lay, append};
 ghost use Rattle.wal.specs.Records.{encode, image};
+ghost use Rattle.meta.specs.Page.{metaPage};
 ghost use Rattle.frames.specs.Copies.{frameOf};
 ghost use Rattle.world.specs.World.{filesOf};
 ghost use Rattle.world.specs.Steps.{apply, applyAll};
 ghost use Rattle.world.specs.Refusals.{orElse};
 ghost use Rattle.stores.specs.Plans.{beginSteps, flushSteps, commitSteps, rollbackSteps, advanceSteps, metaStep, stepsOf, meaning, meant};
-ghost use Rattle.stores.specs.Room.{formNo, numberFor, cutOf, carried, needsOf, costOf, shortNo, Enough, lengthOf};
-ghost use Rattle.stores.specs.Told.{tellingTold, firstTold, toldIn, toldBy, lensAfter, tellSteps};
+ghost use Rattle.stores.specs.Room.{formNo, numberFor, cutOf, carried, needing, needsOf, costOf, shortNo, Enough, lengthOf};
+ghost use Rattle.stores.specs.Told.{tellingTold, firstTold, toldIn, toldBy, lens, lensAfter, tellSteps};
 
 // The most pages of a plan.
 const LIMIT: usize = 64;
@@ -276,6 +277,21 @@ fn length_of(a: Answer) -> usize
     }
 }
 
+// Page 0 leaves no gap.
+fn put_counters(db: &mut [u8], len: usize, m: Counters) -> usize
+    ensures { λ r. ⌜ fileOf (now (db .exit)) r ≡ lay (fileOf (now (db .entry)) len) 0 (metaPage 4096 (m .next .0) (m .time .0) (m .mark .0)) ⌝ }
+{
+    meta::put_meta(db, 0, m);
+    fields::larger(len, numbers::PAGE_SIZE)
+}
+
+// The lengths in one line, so that a match over the stores has a line for each.
+fn lengths(log: usize, db: usize, clog: usize) -> Lens
+    ensures { λ r. ⌜ r ≡ lens log db clog ⌝ }
+{
+    Lens { log, db, clog }
+}
+
 fn apply_step(
     step: Step,
     lens: Lens,
@@ -291,146 +307,46 @@ fn apply_step(
     let d = lens.db;
     let c = lens.clog;
     match step {
-        Step::LogImage(page, slot) => {
-            let end = put_image(log, l, page, frames, slot);
-            Lens {
-                log: end,
-                db: d,
-                clog: c,
-            }
-        }
-        Step::LogBegin(id) => {
-            let end = length_of(wal::append_begin(log, l, id));
-            Lens {
-                log: end,
-                db: d,
-                clog: c,
-            }
-        }
-        Step::LogCommit(id, time) => {
-            let end = length_of(wal::append_commit(log, l, id, time));
-            Lens {
-                log: end,
-                db: d,
-                clog: c,
-            }
-        }
-        Step::LogAbort(id) => {
-            let end = length_of(wal::append_abort(log, l, id));
-            Lens {
-                log: end,
-                db: d,
-                clog: c,
-            }
-        }
-        Step::LogCheckpoint => {
-            let end = length_of(wal::append_checkpoint(log, l));
-            Lens {
-                log: end,
-                db: d,
-                clog: c,
-            }
-        }
-        Step::WritePage(page, slot) => {
-            let end = put_page(db, d, page, frames, slot);
-            Lens {
-                log: l,
-                db: end,
-                clog: c,
-            }
-        }
-        Step::WriteMeta(m) => {
-            meta::put_meta(db, 0, m);
-            let end = fields::larger(d, numbers::PAGE_SIZE);
-            Lens {
-                log: l,
-                db: end,
-                clog: c,
-            }
-        }
-        Step::SetSlot(id, status) => {
-            let end = length_of(clog::record(clog, c, id, status));
-            Lens {
-                log: l,
-                db: d,
-                clog: end,
-            }
-        }
-        Step::Compact(below) => {
-            let end = length_of(clog::compact(clog, c, below));
-            Lens {
-                log: l,
-                db: d,
-                clog: end,
-            }
-        }
-        Step::Truncate => {
-            let end = length_of(wal::truncate(log, l));
-            Lens {
-                log: end,
-                db: d,
-                clog: c,
-            }
-        }
+        Step::LogImage(page, slot) => lengths(put_image(log, l, page, frames, slot), d, c),
+        Step::LogBegin(id) => lengths(length_of(wal::append_begin(log, l, id)), d, c),
+        Step::LogCommit(id, time) => lengths(length_of(wal::append_commit(log, l, id, time)), d, c),
+        Step::LogAbort(id) => lengths(length_of(wal::append_abort(log, l, id)), d, c),
+        Step::LogCheckpoint => lengths(length_of(wal::append_checkpoint(log, l)), d, c),
+        Step::WritePage(page, slot) => lengths(l, put_page(db, d, page, frames, slot), c),
+        Step::WriteMeta(m) => lengths(l, put_counters(db, d, m), c),
+        Step::SetSlot(id, status) => lengths(l, d, length_of(clog::record(clog, c, id, status))),
+        Step::Compact(below) => lengths(l, d, length_of(clog::compact(clog, c, below))),
+        Step::Truncate => lengths(length_of(wal::truncate(log, l)), d, c),
     }
 }
 
 // ---- the room that stores need
 
+// The needs in one line, for the same reason.
+fn needing(log: usize, db: usize, clog: usize) -> Needs
+    ensures { λ r. ⌜ r ≡ needing log db clog ⌝ }
+{
+    Needs { log, db, clog }
+}
+
 fn cost(step: Step) -> Needs
     ensures { λ r. ⌜ r ≡ costOf 4096 step ⌝ }
 {
     match step {
-        Step::LogImage(_, _) => Needs {
-            log: 4101,
-            db: 0,
-            clog: 0,
-        },
-        Step::LogBegin(_) => Needs {
-            log: 9,
-            db: 0,
-            clog: 0,
-        },
-        Step::LogCommit(_, _) => Needs {
-            log: 17,
-            db: 0,
-            clog: 0,
-        },
-        Step::LogAbort(_) => Needs {
-            log: 9,
-            db: 0,
-            clog: 0,
-        },
-        Step::LogCheckpoint => Needs {
-            log: 1,
-            db: 0,
-            clog: 0,
-        },
-        Step::WritePage(page, _) => Needs {
-            log: 0,
-            db: page as usize * numbers::PAGE_SIZE + numbers::PAGE_SIZE,
-            clog: 0,
-        },
-        Step::WriteMeta(_) => Needs {
-            log: 0,
-            db: numbers::PAGE_SIZE,
-            clog: 0,
-        },
-        Step::SetSlot(id, _) => Needs {
-            log: 0,
-            db: 0,
-            clog: numbers::HEADER + (id.0 / 4) as usize + 1,
-        },
-        Step::Compact(_) => Needs {
-            log: 0,
-            db: 0,
-            clog: 0,
-        },
-        Step::Truncate => Needs {
-            log: 0,
-            db: 0,
-            clog: 0,
-        },
+        Step::LogImage(_, _) => needing(4101, 0, 0),
+        Step::LogBegin(_) => needing(9, 0, 0),
+        Step::LogCommit(_, _) => needing(17, 0, 0),
+        Step::LogAbort(_) => needing(9, 0, 0),
+        Step::LogCheckpoint => needing(1, 0, 0),
+        Step::WritePage(page, _) => needing(
+            0,
+            page as usize * numbers::PAGE_SIZE + numbers::PAGE_SIZE,
+            0,
+        ),
+        Step::WriteMeta(_) => needing(0, numbers::PAGE_SIZE, 0),
+        Step::SetSlot(id, _) => needing(0, 0, numbers::HEADER + (id.0 / 4) as usize + 1),
+        Step::Compact(_) => needing(0, 0, 0),
+        Step::Truncate => needing(0, 0, 0),
     }
 }
 
@@ -573,44 +489,20 @@ fn lens_after(step: Step, lens: Lens) -> Lens
     let d = lens.db;
     let c = lens.clog;
     match step {
-        Step::LogImage(_, _) => Lens {
-            log: l + 4101,
-            db: d,
-            clog: c,
-        },
-        Step::LogBegin(_) => Lens {
-            log: l + 9,
-            db: d,
-            clog: c,
-        },
-        Step::LogCommit(_, _) => Lens {
-            log: l + 17,
-            db: d,
-            clog: c,
-        },
-        Step::LogAbort(_) => Lens {
-            log: l + 9,
-            db: d,
-            clog: c,
-        },
-        Step::LogCheckpoint => Lens {
-            log: l + 1,
-            db: d,
-            clog: c,
-        },
+        Step::LogImage(_, _) => lengths(l + 4101, d, c),
+        Step::LogBegin(_) => lengths(l + 9, d, c),
+        Step::LogCommit(_, _) => lengths(l + 17, d, c),
+        Step::LogAbort(_) => lengths(l + 9, d, c),
+        Step::LogCheckpoint => lengths(l + 1, d, c),
         Step::WritePage(_, _) => lens,
         Step::WriteMeta(_) => lens,
-        Step::SetSlot(id, _) => Lens {
-            log: l,
-            db: d,
-            clog: fields::larger(c, numbers::HEADER + (id.0 / 4) as usize + 1),
-        },
+        Step::SetSlot(id, _) => lengths(
+            l,
+            d,
+            fields::larger(c, numbers::HEADER + (id.0 / 4) as usize + 1),
+        ),
         Step::Compact(_) => lens,
-        Step::Truncate => Lens {
-            log: numbers::HEADER,
-            db: d,
-            clog: c,
-        },
+        Step::Truncate => lengths(numbers::HEADER, d, c),
     }
 }
 

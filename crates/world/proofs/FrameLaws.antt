@@ -10,12 +10,11 @@ use native.Mathlib.Omega.{arith}
 use borrow.Author.Tests.{eq-eqb, eqb-true}
 use lib.Dec.{eqb}
 use lib.ListN.{length, drop, getD}
-use lib.Seq.{sets, length-sets, ext-getD, take-length, drop-cons}
+use lib.Seq.{drop-cons}
 use Rattle.fields.specs.Bytes.{part}
 use Rattle.fields.specs.Files.{File}
-use Rattle.fields.proofs.Tests.{Order, less, most, order}
-use Rattle.fields.proofs.ByteLaws.{length-part, part-in}
-use Rattle.fields.proofs.Stored.{sets-before, sets-in, sets-after}
+use Rattle.fields.proofs.ByteLaws.{length-part, part-whole}
+use Rattle.fields.proofs.Stored.{sets-again}
 use Rattle.meta.specs.Page.{metaPage}
 use Rattle.meta.proofs.Laws.{length-meta}
 use Rattle.frames.specs.Pages.{isIn, slotOf, withPage}
@@ -25,28 +24,9 @@ use Rattle.frames.proofs.CopyLaws.{length-page, length-with}
 use Rattle.world.specs.World.{Mem, World, withMem, withCounts, withResident}
 use Rattle.world.specs.Calls.{seat, write, revert, keep, held, isCatalog, catalogPages, dataPages, metaWritten}
 
--- ---- stored twice at a place
-
--- bytes that cover those stored there before are all that is left of the two
-pub sets-again : (xs ys l : List ℕ) (i : ℕ) → length xs ≤ length ys → sets (sets l i xs) i ys ≡ sets l i ys
-sets-again xs ys l i h =
-    ext-getD 0 (sets (sets l i xs) i ys) (sets l i ys) (length-sets (sets l i xs) i ys ∙ length-sets l i xs ∙ sym (length-sets l i ys)) (λ j q. at j (omega (arith, length-sets (sets l i xs) i ys, length-sets l i xs)))
-  where
-    at : (j : ℕ) → j < length l → getD (sets (sets l i xs) i ys) j 0 ≡ getD (sets l i ys) j 0
-    at j q = go (order j i) (order j (i + length ys))
-      where
-        go : Order j i → Order j (i + length ys) → getD (sets (sets l i xs) i ys) j 0 ≡ getD (sets l i ys) j 0
-        go (less a) b = sets-before ys (sets l i xs) i j a ∙ sets-before xs l i j a ∙ sym (sets-before ys l i j a)
-        go (most a) (less b) = sets-in ys (sets l i xs) i j a b (omega (arith, length-sets l i xs)) ∙ sym (sets-in ys l i j a b q)
-        go (most a) (most b) = sets-after ys (sets l i xs) i j b ∙ sets-after xs l i j (omega arith) ∙ sym (sets-after ys l i j b)
-
--- so of two pages put into a frame the second is left
+-- of two pages put into a frame the second is left
 pub frame-again : (P : ℕ) (buf : List ℕ) (i : ℕ) (a b : List ℕ) → length a ≡ P → length b ≡ P → withFrame P (withFrame P buf i a) i b ≡ withFrame P buf i b
 frame-again P buf i a b e f = sets-again a b buf (i * P) (omega arith)
-
--- a whole page, padded to a page, is itself
-pub part-whole : (P : ℕ) (bytes : List ℕ) → length bytes ≡ P → part P bytes 0 ≡ bytes
-part-whole P bytes e = part-in P bytes 0 (omega arith) ∙ rw (← e) (take-length bytes)
 
 -- ---- which pages are kept
 
