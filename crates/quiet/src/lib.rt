@@ -20,6 +20,13 @@ ghost use Rattle.world.specs.Calls.{Write};
 ghost use Rattle.form.specs.Store.{outcome, called, calledOn, withArray, installed, given};
 ghost use Rattle.quiet.specs.Handed.{uninstalled, idAllocated, pageAllocated, pageRead, seatOf};
 
+// What a refused call answers: the old store.
+fn refused(number: u8, s: Store) -> Changed
+    ensures { λ r. ⌜ r ≡ record { number = number; store = s } ⌝ }
+{
+    Changed { number, store: s }
+}
+
 // A transaction is put in.
 pub fn install(
     s: Store,
@@ -33,25 +40,16 @@ pub fn install(
 {
     let no = form::front_no(s, log, db, clog, frames);
     if no != numbers::ACCEPTED {
-        return Changed {
-            number: no,
-            store: s,
-        };
+        return refused(no, s);
     }
     let touched = x.touched;
     if !frames::touched_formed(touched) {
-        return Changed {
-            number: numbers::OUT_OF_FORM,
-            store: s,
-        };
+        return refused(numbers::OUT_OF_FORM, s);
     }
     let old = s.held;
     let slot = old.slot;
     if form::is_installed(slot) {
-        return Changed {
-            number: numbers::OCCUPIED,
-            store: s,
-        };
+        return refused(numbers::OCCUPIED, s);
     }
     let id = x.id;
     let held = Held {
@@ -82,10 +80,7 @@ pub fn uninstall(s: Store, log: &[u8], db: &[u8], clog: &[u8], frames: &[u8]) ->
             slot: Slot::Empty,
             touched: none,
         };
-        let changed = Changed {
-            number: no,
-            store: s,
-        };
+        let changed = refused(no, s);
         return Uninstalled { held, changed };
     }
     let old = s.held;
@@ -115,10 +110,7 @@ pub fn allocate_id(s: Store, log: &[u8], db: &[u8], clog: &[u8], frames: &[u8]) 
 {
     let no = form::front_no(s, log, db, clog, frames);
     if no != numbers::ACCEPTED {
-        let changed = Changed {
-            number: no,
-            store: s,
-        };
+        let changed = refused(no, s);
         return AllocatedId {
             id: TransactionId(0),
             changed,
@@ -145,18 +137,12 @@ pub fn allocate_page(s: Store, log: &[u8], db: &[u8], clog: &[u8], frames: &[u8]
 {
     let no = form::front_no(s, log, db, clog, frames);
     if no != numbers::ACCEPTED {
-        let changed = Changed {
-            number: no,
-            store: s,
-        };
+        let changed = refused(no, s);
         return AllocatedPage { page: 0, changed };
     }
     let page = s.pages;
     if numbers::NO_PAGE <= page {
-        let changed = Changed {
-            number: numbers::BAD_PAGE,
-            store: s,
-        };
+        let changed = refused(numbers::BAD_PAGE, s);
         return AllocatedPage { page: 0, changed };
     }
     let pages = page + 1;
