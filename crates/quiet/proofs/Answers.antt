@@ -1,9 +1,10 @@
 -- Each contract of the crate lets one answer through: two results whose outcome is the same call's are the same, and so is every byte of the frame buffer.
 -- The other buffers are lent to be read only. Assumes nothing.
 use Prim.Native.Nat.{ℕ}
-use mathlib.Core.Path.{_≡_, sym, ap, _∙_}
-use mathlib.Core.List.{List}
+use mathlib.Core.Path.{_≡_, refl, sym, ap, _∙_}
+use mathlib.Core.List.{List, [], _∷_}
 use Rattle.fields.specs.declared.TransactionId.{TransactionId}
+use Rattle.table.specs.declared.Entry.{Entry}
 use Rattle.form.specs.declared.Held.{Held}
 use Rattle.form.specs.declared.Changed.{Changed}
 use Rattle.form.specs.Store.{Outcome, outcome, Given, given}
@@ -11,6 +12,10 @@ use Rattle.quiet.specs.declared.Uninstalled.{Uninstalled}
 use Rattle.quiet.specs.declared.AllocatedId.{AllocatedId}
 use Rattle.quiet.specs.declared.AllocatedPage.{AllocatedPage}
 use Rattle.quiet.specs.declared.PageRead.{PageRead}
+use Rattle.quiet.specs.declared.EntryAt.{EntryAt}
+use Rattle.quiet.specs.declared.EntryAt.the-variants.{Is, Nothing}
+use Rattle.quiet.specs.declared.EntryRead.{EntryRead}
+use Rattle.quiet.specs.Entries.{EntryTold, entriesIn, entryTold}
 
 abbrev changedOf : Outcome → Changed
 changedOf o = record { number = o .number; store = o .store }
@@ -47,3 +52,21 @@ module _ (log db clog frames frames' : List ℕ) where
   pub read-same : (a b : PageRead) (o : Given (List ℕ)) → given (a .bytes) (a .changed) log db clog frames ≡ o →
       given (b .bytes) (b .changed) log db clog frames' ≡ o → (a ≡ b) × (frames ≡ frames')
   read-same a b o e f = (ap readOf (e ∙ sym f), ap (λ (g : Given (List ℕ)). g .outcome .frames) (e ∙ sym f))
+
+-- what is told of an entry is what the enum holds
+abbrev entryOf : List Entry → EntryAt
+entryOf [] = Nothing
+entryOf (e ∷ l) = Is e
+
+abbrev entryReadOf : EntryTold → EntryRead
+entryReadOf t = record { number = t .number; entry = entryOf (t .entries) }
+
+entry-back : (r : EntryRead) → entryReadOf (entryTold r) ≡ r
+entry-back r = ap (λ (x : EntryAt). record { number = r .number; entry = x }) (go (r .entry))
+  where
+    go : (x : EntryAt) → entryOf (entriesIn x) ≡ x
+    go (Is e) = refl
+    go Nothing = refl
+
+pub entry-same : (a b : EntryRead) (o : EntryTold) → entryTold a ≡ o → entryTold b ≡ o → a ≡ b
+entry-same a b o e f = sym (entry-back a) ∙ ap entryReadOf (e ∙ sym f) ∙ entry-back b

@@ -1,3 +1,4 @@
 pub mod Transactions
 pub mod Pages
 pub mod Answers
+pub mod Entries

@@ -1,6 +1,6 @@
 // The calls that have no stores: install, uninstall, allocate an id or a page, read and write a page. Each takes the store, the four buffers and its own arguments,
 // tests 1 and 14 first, and hands back a number and the store; a refusal hands back the old store and changes no buffer. Every public function is total: its
-// contract is one equation with a call of specs, which says the answer, the store and every byte of the buffers.
+// contract is one equation with a call of specs, which says the answer, the store and every byte of the buffers. Two more tell the table's entries and change nothing.
 use fields::TransactionId;
 use fields::numbers;
 use form::Changed;
@@ -9,6 +9,7 @@ use form::Store;
 use frames::Place;
 use frames::Touched;
 use frames::Transaction;
+use table::Entry;
 use world::Slot;
 ghost use mathlib.Core.Path.{_≡_};
 ghost use mathlib.Core.Bool.{true, cond};
@@ -19,6 +20,14 @@ ghost use Rattle.frames.specs.Copies.{pageOf};
 ghost use Rattle.world.specs.Calls.{Write};
 ghost use Rattle.form.specs.Store.{outcome, called, calledOn, withArray, installed, given};
 ghost use Rattle.quiet.specs.Handed.{uninstalled, idAllocated, pageAllocated, pageRead, seatOf};
+ghost use Rattle.quiet.specs.Entries.{entriesCounted, entryTold, entryRead};
+
+// What a refused call answers: the old store.
+fn refused(number: u8, s: Store) -> Changed
+    ensures { λ r. ⌜ r ≡ record { number = number; store = s } ⌝ }
+{
+    Changed { number, store: s }
+}
 
 // A transaction is put in.
 pub fn install(
@@ -33,25 +42,16 @@ pub fn install(
 {
     let no = form::front_no(s, log, db, clog, frames);
     if no != numbers::ACCEPTED {
-        return Changed {
-            number: no,
-            store: s,
-        };
+        return refused(no, s);
     }
     let touched = x.touched;
     if !frames::touched_formed(touched) {
-        return Changed {
-            number: numbers::OUT_OF_FORM,
-            store: s,
-        };
+        return refused(numbers::OUT_OF_FORM, s);
     }
     let old = s.held;
     let slot = old.slot;
     if form::is_installed(slot) {
-        return Changed {
-            number: numbers::OCCUPIED,
-            store: s,
-        };
+        return refused(numbers::OCCUPIED, s);
     }
     let id = x.id;
     let held = Held {
@@ -82,10 +82,7 @@ pub fn uninstall(s: Store, log: &[u8], db: &[u8], clog: &[u8], frames: &[u8]) ->
             slot: Slot::Empty,
             touched: none,
         };
-        let changed = Changed {
-            number: no,
-            store: s,
-        };
+        let changed = refused(no, s);
         return Uninstalled { held, changed };
     }
     let old = s.held;
@@ -115,10 +112,7 @@ pub fn allocate_id(s: Store, log: &[u8], db: &[u8], clog: &[u8], frames: &[u8]) 
 {
     let no = form::front_no(s, log, db, clog, frames);
     if no != numbers::ACCEPTED {
-        let changed = Changed {
-            number: no,
-            store: s,
-        };
+        let changed = refused(no, s);
         return AllocatedId {
             id: TransactionId(0),
             changed,
@@ -145,18 +139,12 @@ pub fn allocate_page(s: Store, log: &[u8], db: &[u8], clog: &[u8], frames: &[u8]
 {
     let no = form::front_no(s, log, db, clog, frames);
     if no != numbers::ACCEPTED {
-        let changed = Changed {
-            number: no,
-            store: s,
-        };
+        let changed = refused(no, s);
         return AllocatedPage { page: 0, changed };
     }
     let page = s.pages;
     if numbers::NO_PAGE <= page {
-        let changed = Changed {
-            number: numbers::BAD_PAGE,
-            store: s,
-        };
+        let changed = refused(numbers::BAD_PAGE, s);
         return AllocatedPage { page: 0, changed };
     }
     let pages = page + 1;
@@ -166,6 +154,66 @@ pub fn allocate_page(s: Store, log: &[u8], db: &[u8], clog: &[u8], frames: &[u8]
         store: u,
     };
     AllocatedPage { page, changed }
+}
+
+// ---- the table's entries
+
+pub struct EntryCount {
+    pub number: u8,
+    pub entries: usize,
+}
+
+// How many entries the table has.
+pub fn entry_count(s: Store, log: &[u8], db: &[u8], clog: &[u8], frames: &[u8]) -> EntryCount
+    ensures { λ r. ⌜ r ≡ entriesCounted 4096 s (now (log .entry)) (now (db .entry)) (now (clog .entry)) (now (frames .entry)) ⌝ }
+{
+    let no = form::front_no(s, log, db, clog, frames);
+    if no != numbers::ACCEPTED {
+        return EntryCount {
+            number: no,
+            entries: 0,
+        };
+    }
+    let t = s.table;
+    EntryCount {
+        number: numbers::ACCEPTED,
+        entries: t.count,
+    }
+}
+
+pub enum EntryAt {
+    Is(Entry),
+    Nothing,
+}
+
+pub struct EntryRead {
+    pub number: u8,
+    pub entry: EntryAt,
+}
+
+// The i-th entry by id, from 0.
+pub fn entry_at(s: Store, i: usize, log: &[u8], db: &[u8], clog: &[u8], frames: &[u8]) -> EntryRead
+    ensures { λ r. ⌜ entryTold r ≡ entryRead 4096 i s (now (log .entry)) (now (db .entry)) (now (clog .entry)) (now (frames .entry)) ⌝ }
+{
+    let no = form::front_no(s, log, db, clog, frames);
+    if no != numbers::ACCEPTED {
+        return EntryRead {
+            number: no,
+            entry: EntryAt::Nothing,
+        };
+    }
+    let t = s.table;
+    if t.count <= i {
+        return EntryRead {
+            number: numbers::ACCEPTED,
+            entry: EntryAt::Nothing,
+        };
+    }
+    let e = t.entries[i];
+    EntryRead {
+        number: numbers::ACCEPTED,
+        entry: EntryAt::Is(e),
+    }
 }
 
 // ---- pages

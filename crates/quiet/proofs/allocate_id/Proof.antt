@@ -16,11 +16,16 @@ sized c = record { entries = search (needs, length-of-mapped); pages = search ne
 front-no-requires : tie.Need-front-no-requires
 front-no-requires c κs = search needs
 
+refused-requires : tie.Need-refused-requires
+refused-requires c κs = search needs
+
 returns : tie.Need-returns
 returns c =
-    let a = c .before .before .before .before .before .before .args in
-    let k = c .before .front-no in
-    id-refused 4096 (a .s) (a .log .now) (a .db .now) (a .clog .now) (a .frames .now) (k .result) (k .ensures) (c .if1 .taken)
+    let front = c .before in
+    let a = front .before .before .before .before .before .before .args in
+    let k = front .before .front-no in
+    rw (c .refused .ensures)
+    (id-refused 4096 (a .s) (a .log .now) (a .db .now) (a .clog .now) (a .frames .now) (k .result) (k .ensures) (front .if1 .taken))
 
 next-id-requires : tie.Need-next-id-requires
 next-id-requires c κs = search needs
@@ -35,4 +40,4 @@ returns-2 c =
     rw (next .next-id .ensures) (id-out 4096 (a .s) (a .log .now) (a .db .now) (a .clog .now) (a .frames .now) e0 (sized start))
 
 pub allocate-id-spec : {M : Type 1} → statement M
-allocate-id-spec = tie.close (tie.spec front-no-requires returns next-id-requires returns-2)
+allocate-id-spec = tie.close (tie.spec front-no-requires refused-requires returns next-id-requires returns-2)

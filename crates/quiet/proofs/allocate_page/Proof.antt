@@ -16,18 +16,27 @@ sized c = record { entries = search (needs, length-of-mapped); pages = search ne
 front-no-requires : tie.Need-front-no-requires
 front-no-requires c κs = search needs
 
+refused-requires : tie.Need-refused-requires
+refused-requires c κs = search needs
+
 returns : tie.Need-returns
 returns c =
-    let a = c .before .before .before .before .before .before .args in
-    let k = c .before .front-no in
-    page-refused 4096 (a .s) (a .log .now) (a .db .now) (a .clog .now) (a .frames .now) (k .result) (k .ensures) (c .if1 .taken)
+    let front = c .before in
+    let a = front .before .before .before .before .before .before .args in
+    let k = front .before .front-no in
+    rw (c .refused .ensures)
+    (page-refused 4096 (a .s) (a .log .now) (a .db .now) (a .clog .now) (a .frames .now) (k .result) (k .ensures) (front .if1 .taken))
+
+refused-requires-2 : tie.Need-refused-requires-2
+refused-requires-2 c κs = search needs
 
 returns-2 : tie.Need-returns-2
 returns-2 c =
-    let front = c .before in
+    let room = c .before in
+    let front = room .before in
     let a = front .before .before .before .before .before .before .args in
     let e0 : frontNo 4096 (worldOf (a .s) (a .log .now) (a .db .now) (a .clog .now) (a .frames .now)) ≡ 0 = sym (front .before .front-no .ensures) ∙ front .if1 .left in
-    page-none 4096 (a .s) (a .log .now) (a .db .now) (a .clog .now) (a .frames .now) e0 (c .if2 .taken)
+    rw (c .refused2 .ensures) (page-none 4096 (a .s) (a .log .now) (a .db .now) (a .clog .now) (a .frames .now) e0 (room .if2 .taken))
 
 add-pages : tie.Need-add-pages
 add-pages c = search needs
@@ -42,4 +51,4 @@ returns-3 c =
     page-out 4096 (a .s) (a .log .now) (a .db .now) (a .clog .now) (a .frames .now) e0 (sized start) (room .if2 .left)
 
 pub allocate-page-spec : {M : Type 1} → statement M
-allocate-page-spec = tie.close (tie.spec front-no-requires returns returns-2 add-pages returns-3)
+allocate-page-spec = tie.close (tie.spec front-no-requires refused-requires returns refused-requires-2 returns-2 add-pages returns-3)

@@ -27,37 +27,53 @@ handed-in c = search needs
 front-no-requires : tie.Need-front-no-requires
 front-no-requires c κs = search needs
 
+refused-requires : tie.Need-refused-requires
+refused-requires c κs = search needs
+
 returns : tie.Need-returns
 returns c =
-    let a = c .before .before .before .before .before .before .args in
-    let k = c .before .front-no in
-    refused-front 4096 (installed (a .x)) (withArray (a .s) (a .x .touched)) (a .s) (a .log .now) (a .db .now) (a .clog .now) (a .frames .now) (k .result) (k .ensures) (c .if1 .taken)
+    let front = c .before in
+    let a = front .before .before .before .before .before .before .args in
+    let k = front .before .front-no in
+    rw (c .refused .ensures)
+    (refused-front 4096 (installed (a .x)) (withArray (a .s) (a .x .touched)) (a .s) (a .log .now) (a .db .now) (a .clog .now) (a .frames .now) (k .result) (k .ensures) (front .if1 .taken))
 
 touched-formed-requires : tie.Need-touched-formed-requires
 touched-formed-requires c κs = search needs
 
+refused-requires-2 : tie.Need-refused-requires-2
+refused-requires-2 c κs = search needs
+
 returns-2 : tie.Need-returns-2
 returns-2 c =
-    let front = c .before .before .before in
+    let form = c .before in
+    let front = form .before .before .before in
     let start = front .before .before .before .before .before .before in
     let a = start .args in
     let e0 : frontNo 4096 (worldOf (a .s) (a .log .now) (a .db .now) (a .clog .now) (a .frames .now)) ≡ 0 = sym (front .before .front-no .ensures) ∙ front .if1 .left in
-    let bad = sym (touched-bad (a .x .touched) (handed-in start)) ∙ ap not (sym (c .before .touched-formed .ensures)) ∙ c .if2 .taken in
-    refused-call 4096 (installed (a .x)) (withArray (a .s) (a .x .touched)) (a .s) (a .log .now) (a .db .now) (a .clog .now) (a .frames .now) 13 e0 (install-14 4096 (a .x) (a .s) (a .log .now) (a .db .now) (a .clog .now) (a .frames .now) bad)
+    let bad = sym (touched-bad (a .x .touched) (handed-in start)) ∙ ap not (sym (form .before .touched-formed .ensures)) ∙ form .if2 .taken in
+    rw (c .refused2 .ensures)
+    (refused-call 4096 (installed (a .x)) (withArray (a .s) (a .x .touched)) (a .s) (a .log .now) (a .db .now) (a .clog .now) (a .frames .now) 13 e0
+    (install-14 4096 (a .x) (a .s) (a .log .now) (a .db .now) (a .clog .now) (a .frames .now) bad))
 
 is-installed-requires : tie.Need-is-installed-requires
 is-installed-requires c κs = search needs
 
+refused-requires-3 : tie.Need-refused-requires-3
+refused-requires-3 c κs = search needs
+
 returns-3 : tie.Need-returns-3
 returns-3 c =
-    let form = c .before .before .before in
+    let place = c .before in
+    let form = place .before .before .before in
     let front = form .before .before .before in
     let start = front .before .before .before .before .before .before in
     let a = start .args in
     let e0 : frontNo 4096 (worldOf (a .s) (a .log .now) (a .db .now) (a .clog .now) (a .frames .now)) ≡ 0 = sym (front .before .front-no .ensures) ∙ front .if1 .left in
     let good = sym (touched-bad (a .x .touched) (handed-in start)) ∙ ap not (sym (form .before .touched-formed .ensures)) ∙ form .if2 .left in
-    refused-call 4096 (installed (a .x)) (withArray (a .s) (a .x .touched)) (a .s) (a .log .now) (a .db .now) (a .clog .now) (a .frames .now) 8 e0
-    (install-9 4096 (a .x) (a .s) (a .log .now) (a .db .now) (a .clog .now) (a .frames .now) good (sym (c .before .is-installed .ensures) ∙ c .if3 .taken))
+    rw (c .refused3 .ensures)
+    (refused-call 4096 (installed (a .x)) (withArray (a .s) (a .x .touched)) (a .s) (a .log .now) (a .db .now) (a .clog .now) (a .frames .now) 8 e0
+    (install-9 4096 (a .x) (a .s) (a .log .now) (a .db .now) (a .clog .now) (a .frames .now) good (sym (place .before .is-installed .ensures) ∙ place .if3 .taken)))
 
 returns-4 : tie.Need-returns-4
 returns-4 c =
@@ -75,9 +91,12 @@ install-spec =
     tie.close
     (tie.spec
     front-no-requires
+    refused-requires
     returns
     touched-formed-requires
+    refused-requires-2
     returns-2
     is-installed-requires
+    refused-requires-3
     returns-3
     returns-4)

@@ -19,12 +19,17 @@ front-no-requires c κs = search needs
 no-pages-requires : tie.Need-no-pages-requires
 no-pages-requires c κs = search needs
 
+refused-requires : tie.Need-refused-requires
+refused-requires c κs = search needs
+
 returns : tie.Need-returns
 returns c =
-    let front = c .before in
+    let pages = c .before in
+    let front = pages .before in
     let a = front .before .before .before .before .before .before .args in
     let k = front .before .front-no in
-    uninstall-refused 4096 (a .s) (a .log .now) (a .db .now) (a .clog .now) (a .frames .now) (k .result) (c .no-pages .result) (c .no-pages .ensures) (k .ensures) (front .if1 .taken)
+    rw (c .refused .ensures)
+    (uninstall-refused 4096 (a .s) (a .log .now) (a .db .now) (a .clog .now) (a .frames .now) (k .result) (pages .no-pages .result) (pages .no-pages .ensures) (k .ensures) (front .if1 .taken))
 
 returns-2 : tie.Need-returns-2
 returns-2 c =
@@ -35,4 +40,4 @@ returns-2 c =
     uninstall-out 4096 (a .s) (a .log .now) (a .db .now) (a .clog .now) (a .frames .now) e0 (sized start)
 
 pub uninstall-spec : {M : Type 1} → statement M
-uninstall-spec = tie.close (tie.spec front-no-requires no-pages-requires returns returns-2)
+uninstall-spec = tie.close (tie.spec front-no-requires no-pages-requires refused-requires returns returns-2)
