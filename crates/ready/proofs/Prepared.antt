@@ -11,7 +11,7 @@ use lib.Seq.{sets, take-all}
 use borrow.Author.Tests.{le-ltb}
 use Rattle.fields.specs.Files.{File, fileOf, room, unfit}
 use Rattle.fields.proofs.Tests.{passed}
-use Rattle.fields.proofs.FileLaws.{unfit-len}
+use Rattle.fields.proofs.FileLaws.{fit-ok}
 use Rattle.frames.specs.Copies.{pageOf, withFrame}
 use Rattle.world.specs.World.{Files, World, filesOf, lensOf}
 use Rattle.world.specs.Steps.{Step, applyAll}
@@ -48,9 +48,6 @@ first-zero a b e = rw e
 
 first-more : (a b n : ℕ) → a ≡ suc n → orElse a b ≡ suc n
 first-more a b n e = rw e
-
-fits : (limit size len : ℕ) → size ≤ limit → len ≤ size → unfit limit size len ≡ false
-fits limit size len h l = sym (unfit-len limit size len h) ∙ le-ltb size len l
 
 -- ---- stores carried out: none of them, and all
 
@@ -212,9 +209,9 @@ module _ (P : ℕ) (c : Call) (s : Store) (log db clog frames : List ℕ) where
     form-0 =
         let i = front-means P s log db clog frames e0 in
         rw (
-          fits 16777216 (length log) (s .lens .log) (i .log-limit) (i .log-fits),
-          fits 16777216 (length db) (s .lens .db) (i .db-limit) (i .db-fits),
-          fits 1048576 (length clog) (s .lens .clog) (i .clog-limit) (i .clog-fits),
+          fit-ok 16777216 (length log) (s .lens .log) (i .log-limit) (i .log-fits),
+          fit-ok 16777216 (length db) (s .lens .db) (i .db-limit) (i .db-fits),
+          fit-ok 1048576 (length clog) (s .lens .clog) (i .clog-limit) (i .clog-fits),
           le-ltb (s .lens .log) 8 (i .log-header),
           le-ltb (s .lens .clog) 8 (i .clog-header),
         )

@@ -15,12 +15,12 @@ use lib.Seq.{sets, length-sets, ext-getD}
 use Rattle.fields.specs.Files.{File, fileOf, lay}
 use Rattle.fields.proofs.Tests.{Order, less, most, order}
 use Rattle.fields.proofs.FileLaws.{lay-within}
-use Rattle.fields.proofs.Stored.{sets-before, sets-in, sets-after}
+use Rattle.fields.proofs.Stored.{sets-before, sets-in, sets-after, sets-again}
 use Rattle.frames.specs.Pages.{isIn, slotOf, badPage, anyBad}
 use Rattle.frames.specs.Copies.{pageOf, withFrame}
 use Rattle.frames.proofs.Lists.{index-in}
 use Rattle.frames.proofs.CopyLaws.{page-has, page-none, length-page, stored-apart}
-use Rattle.world.proofs.FrameLaws.{raised, raised-turn, raised-end, refilled, refilled-turn, refilled-end, sets-again}
+use Rattle.world.proofs.FrameLaws.{raised, raised-turn, raised-end, refilled, refilled-turn, refilled-end}
 use Rattle.picks.specs.declared.Picked.{Picked}
 use Rattle.picks.specs.Picks.{Seat, seat, seatsOf, pickedOf}
 use Rattle.plans.proofs.Meanings.{page-at, slot-at}
