@@ -57,11 +57,11 @@ fn at_least_one(pages: u32) -> u32
     if pages < 1 { 1 } else { pages }
 }
 
-// A call on the store s that would leave u, but for page 0: `no` is the number that the table gave it. All tests stand here, in their order, before a change.
+// A call on the store s that would leave u, but for page 0; full is the number that the table gave. The tests stand here in their order, and before any change.
 fn seal(
     s: Store,
     u: Store,
-    no: u8,
+    full: u8,
     plan: Plan,
     back: Picked,
     log: &[u8],
@@ -69,15 +69,15 @@ fn seal(
     clog: &[u8],
     frames: &[u8],
 ) -> Ready
-    ensures { λ r. ⌜ r ≡ sealedAs 4096 s u no plan back (now (log .entry)) (now (db .entry)) (now (clog .entry)) (now (frames .entry)) ⌝ }
+    ensures { λ r. ⌜ r ≡ sealedAs 4096 s u full plan back (now (log .entry)) (now (db .entry)) (now (clog .entry)) (now (frames .entry)) ⌝ }
 {
     let lens = s.lens;
     let short = stores::room_no(plan, lens, log, db, clog, frames);
     if short != numbers::ACCEPTED {
         return ready::nothing(short, s);
     }
-    if no != numbers::ACCEPTED {
-        return ready::nothing(no, s);
+    if full != numbers::ACCEPTED {
+        return ready::nothing(full, s);
     }
     let f = s.frames;
     let seat = frames::seat(f, frames.len(), 0);

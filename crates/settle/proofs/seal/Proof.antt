@@ -15,7 +15,7 @@ returns c =
     let room = c .before .before in
     let start = room .before .before .before .before .before .before in
     let a = start .args in
-    seal-short 4096 (a .s) (a .u) (a .no) (a .plan) (a .back) (a .log .now) (a .db .now) (a .clog .now) (a .frames .now) (c .nothing .result) (room .room-no .result) (room .room-no .ensures) (c .nothing .ensures) (c .before .if1 .taken)
+    seal-short 4096 (a .s) (a .u) (a .full) (a .plan) (a .back) (a .log .now) (a .db .now) (a .clog .now) (a .frames .now) (c .nothing .result) (room .room-no .result) (room .room-no .ensures) (c .nothing .ensures) (c .before .if1 .taken)
 
 nothing-requires-2 : tie.Need-nothing-requires-2
 nothing-requires-2 c κs = search needs
@@ -27,7 +27,7 @@ returns-2 c =
     let room = ok .before in
     let start = room .before .before .before .before .before .before in
     let a = start .args in
-    seal-table 4096 (a .s) (a .u) (a .no) (a .plan) (a .back) (a .log .now) (a .db .now) (a .clog .now) (a .frames .now) (c .nothing2 .result) (room .room-no .result) (room .room-no .ensures) (ok .if1 .left) (c .nothing2 .ensures) (full .if2 .taken)
+    seal-table 4096 (a .s) (a .u) (a .full) (a .plan) (a .back) (a .log .now) (a .db .now) (a .clog .now) (a .frames .now) (c .nothing2 .result) (room .room-no .result) (room .room-no .ensures) (ok .if1 .left) (c .nothing2 .ensures) (full .if2 .taken)
 
 seat-requires : tie.Need-seat-requires
 seat-requires c κs = search needs
@@ -44,7 +44,7 @@ returns-3 c =
     let room = ok .before in
     let start = room .before .before .before .before .before .before in
     let a = start .args in
-    seal-seat 4096 (a .s) (a .u) (a .no) (a .plan) (a .back) (a .log .now) (a .db .now) (a .clog .now) (a .frames .now) (c .nothing3 .result) (room .room-no .result) (room .room-no .ensures) (ok .if1 .left) (fine .if2 .left) (seat .seat .result) (seat .seat .ensures)
+    seal-seat 4096 (a .s) (a .u) (a .full) (a .plan) (a .back) (a .log .now) (a .db .now) (a .clog .now) (a .frames .now) (c .nothing3 .result) (room .room-no .result) (room .room-no .ensures) (ok .if1 .left) (fine .if2 .left) (seat .seat .result) (seat .seat .ensures)
     (c .nothing3 .ensures) (taken .if3 .taken)
 
 slot-for-requires : tie.Need-slot-for-requires
@@ -67,7 +67,7 @@ returns-4 c =
     let room = ok .before in
     let start = room .before .before .before .before .before .before in
     let a = start .args in
-    seal-out 4096 (a .s) (a .u) (a .no) (a .plan) (a .back) (a .log .now) (a .db .now) (a .clog .now) (a .frames .now) (c .meta-call .result) (room .room-no .result) (room .room-no .ensures) (ok .if1 .left) (fine .if2 .left) (seat .seat .result) (seat .seat .ensures)
+    seal-out 4096 (a .s) (a .u) (a .full) (a .plan) (a .back) (a .log .now) (a .db .now) (a .clog .now) (a .frames .now) (c .meta-call .result) (room .room-no .result) (room .room-no .ensures) (ok .if1 .left) (fine .if2 .left) (seat .seat .result) (seat .seat .ensures)
     (slot .slot-for .result) (pages .at-least-one .result) (free .if3 .left) (slot .slot-for .ensures) (pages .at-least-one .ensures) (c .meta-call .ensures)
 
 pub seal-spec : {M : Type 1} → statement M
