@@ -180,7 +180,11 @@ hasLaid n = eqb n 2 || eqb n 3
 unfoldable pub leftBy : ℕ → ℕ → Files → Files
 leftBy P n f = cond (hasLaid n) (withDb (replayed P f) f) f
 
--- the number, the database's length after it, and the world; a refused opening has no store, and memory is empty
+-- a refused opening has no store: its files, and an empty memory
+abbrev pub unopened : Files → List ℕ → World
+unopened f frames = record { files = f; frames = frames; mem = atRest 0 0 0 0 [] }
+
+-- the number, the database's length after it, and the world
 pub record Opening : Type 0 where
   pub number : ℕ
   pub db : ℕ
@@ -189,7 +193,7 @@ pub record Opening : Type 0 where
 unfoldable pub opening : ℕ → Files → List ℕ → Opening
 opening P f frames =
     let n = openNo P f frames in
-    let w = decided n (openedWorld P f frames) (record { files = leftBy P n f; frames = frames; mem = atRest 0 0 0 0 [] }) in
+    let w = decided n (openedWorld P f frames) (unopened (leftBy P n f) frames) in
     record { number = n; db = w .files .db .len; world = w }
 
 -- ---- the same for the code's store
@@ -220,12 +224,14 @@ abbrev pub openedAs : Opened → List ℕ → List ℕ → List ℕ → List ℕ
 openedAs r log db clog frames =
     given (verdictTold (r .verdict) .values) (record { number = verdictTold (r .verdict) .number; store = r .store }) log db clog frames
 
+-- an opening, so told
+abbrev pub shown : Opening → Given (List ℕ)
+shown o =
+    record {
+      value = cond (eqb (o .number) 0 || hasLaid (o .number)) (o .db ∷ []) [];
+      outcome = ending (o .number) (decided (o .number) (laidStore noStore (o .world)) noStore) (o .world);
+    }
+
 -- what must come out of opening the files of these lengths in these buffers
 unfoldable pub opened : ℕ → Lens → List ℕ → List ℕ → List ℕ → List ℕ → Given (List ℕ)
-opened P lens log db clog frames =
-    let o = opening P (filesOf lens log db clog) frames in
-    let n = o .number in
-    record {
-      value = cond (eqb n 0 || hasLaid n) (o .db ∷ []) [];
-      outcome = ending n (decided n (laidStore noStore (o .world)) noStore) (o .world);
-    }
+opened P lens log db clog frames = shown (opening P (filesOf lens log db clog) frames)
