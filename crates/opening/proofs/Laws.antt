@@ -1,5 +1,5 @@
--- Laws of an opening, over the page size P: what it leaves, by its number, in lists and for the code's store; that what comes out allows one result only; and the
--- opening of a log that has no records. Assumes nothing.
+-- Laws of an opening, over the page size P: what it leaves, by its number, in lists and for the code's store; that what comes out allows one result only; and
+-- the opening of a log that has no records. Assumes nothing.
 use mathlib.Core.Path.{_≡_, refl, sym, ap, _∙_}
 use mathlib.Core.List.{List, [], _∷_, append-nil}
 use mathlib.Core.Bool.{Bool, true, false, cond}
@@ -19,15 +19,14 @@ use Rattle.table.specs.Entries.{largestBy, largestId, next64}
 use Rattle.clog.specs.Slots.{clogMagic, openClog, recordAll, settled}
 use Rattle.meta.specs.Page.{hasMeta, storedNext, storedTime, storedMark, formatNo}
 use Rattle.world.specs.declared.Lens.{Lens}
-use Rattle.world.specs.World.{Files, filesOf, World}
+use Rattle.world.specs.World.{Files, filesOf}
 use Rattle.world.specs.Steps.{withDb}
 use Rattle.world.specs.Run.{decided}
 use Rattle.world.specs.Refusals.{anyOf, orElse, badBuffers}
-use Rattle.form.specs.declared.Store.{Store}
 use Rattle.form.specs.declared.Changed.{Changed}
 use Rattle.form.specs.Store.{laidStore, worldIn, Given}
 use Rattle.form.proofs.Arrays.{or-false}
-use Rattle.form.proofs.Called.{Same, given-same}
+use Rattle.form.proofs.Called.{given-same}
 use Rattle.form.proofs.Worlds.{world-laid}
 use Rattle.opening.specs.declared.Verdict.{Verdict}
 use Rattle.opening.specs.declared.Verdict.the-variants.{Accepted, Refused, Torn, Unknown}
@@ -204,7 +203,7 @@ module _ (P : ℕ) (f : Files) (b : Bare P (f .log)) where
         cond (badBuffers P f frames) 1
         (orElse (formatNo P (f .db))
         (cond (ltb (room (f .log)) 8) 4 (cond (ltb (room (f .clog)) 8) 6 (cond (ltb 256 (length (clogTable (f .clog)))) 7 0))))
-    unfolding openNo openRoomNo anyOf
+    unfolding openNo openRoomNo anyOf statuses
     bare-no = rw (b .none, b .whole, or-zero, or-false, bare-full)
 
     -- with a meta page: what the clog and page 0 hold

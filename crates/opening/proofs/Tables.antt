@@ -1,27 +1,28 @@
--- Laws of the tables of an opening, over the page size P: the log's is the last word of its records on each id, Active become Aborted; a valid clog's is its slots;
--- and the table of a store that was opened with a meta page is exactly the clog's with the log's laid over it. Assumes nothing.
-use mathlib.Core.Path.{_≡_, refl, sym, ap, _∙_, subst}
+-- Laws of the tables of an opening, over the page size P: the log's is the last word of its records on each id, Active become Aborted; a valid clog's is its
+-- slots; and the table of a store that was opened with a meta page is exactly the clog's with the log's laid over it. Assumes nothing.
+use mathlib.Core.Path.{_≡_, refl, sym, _∙_, subst}
 use mathlib.Core.List.{List, [], _∷_, _++_}
 use mathlib.Core.Bool.{Bool, true, false, cond}
-use Prim.Native.Nat.{ℕ}
+use Prim.Native.Nat.{ℕ, _≤_}
+use lib.ListN.{length}
 use borrow.Author.Tests.{eq-eqb, ne-eqb}
 use Rattle.sorted.specs.Sorted.{lookBy, insertAllBy, ascendingBy}
 use Rattle.fields.specs.Files.{File, content}
 use Rattle.fields.proofs.Tests.{Equal, equal, other, equality}
 use Rattle.wal.specs.Records.{Record, image, begin, commit, abort, checkpoint}
-use Rattle.table.specs.declared.Status.{Status}
 use Rattle.table.specs.declared.Status.the-variants.{Active}
 use Rattle.table.specs.declared.Entry.{Entry}
 use Rattle.table.specs.declared.Known.{Known}
 use Rattle.table.specs.declared.Known.the-variants.{Is, Absent}
 use Rattle.table.specs.Entries.{idOf, insertEntry, insertAll, ascending, statusOf, orKnown, settledKnown}
-use Rattle.table.proofs.Facts.{status-set, status-kept, over-ascending, over-status, settle-ascending, settle-status, settle-unfound}
+use Rattle.table.proofs.Facts.{status-set, status-kept, over-ascending, over-grows, over-status, settle-ascending, settle-status, settle-unfound}
 use Rattle.clog.specs.Slots.{slotOf, validClog, entriesIn}
 use Rattle.clog.proofs.TableLaws.{knownAs, load-ascending, load-status-plain}
 use Rattle.meta.specs.Page.{hasMeta}
 use Rattle.world.specs.World.{Files}
-use Rattle.opening.specs.Opening.{records, replayed, noted, statuses, logTable, clogTable, fullTable, openNo, withMeta, withoutMeta, openedWorld, opening}
+use Rattle.opening.specs.Opening.{records, replayed, noted, statuses, logTable, clogTable, fullTable, openNo, withMeta, withoutMeta, opening}
 use Rattle.opening.proofs.Laws.{accepted, world-meta, world-plain}
+use Rattle.opening.proofs.Covers.{over-covers}
 
 -- ---- the log's table
 
@@ -38,7 +39,7 @@ or-assoc : (a b c : Known) → orKnown (orKnown a b) c ≡ orKnown a (orKnown b 
 or-assoc (Is s) b c = refl
 or-assoc Absent b c = refl
 
-nothing : (k : ℕ) → statusOf k [] ≡ Absent
+pub nothing : (k : ℕ) → statusOf k [] ≡ Absent
 unfolding statusOf lookBy
 nothing k = refl
 
@@ -47,7 +48,7 @@ own-word : (e : Entry) → statusOf (idOf e) (e ∷ []) ≡ Is (e .status)
 unfolding statusOf lookBy
 own-word e = rw (eq-eqb (idOf e) (idOf e) refl)
 
-other-word : (k : ℕ) (e : Entry) → (idOf e ≡ k → ⊥) → statusOf k (e ∷ []) ≡ Absent
+pub other-word : (k : ℕ) (e : Entry) → (idOf e ≡ k → ⊥) → statusOf k (e ∷ []) ≡ Absent
 unfolding statusOf lookBy
 other-word k e n = rw (ne-eqb (idOf e) k n)
 
@@ -140,6 +141,15 @@ module _ (P : ℕ) (f : Files) where
   pub full-word : (k : ℕ) → statusOf k (fullTable P f) ≡ orKnown (statusOf k (logTable P (f .log))) (statusOf k (clogTable (f .clog)))
   unfolding fullTable
   full-word k = over-status (logTable P (f .log)) (clogTable (f .clog)) k (log-ascending P (f .log))
+
+  -- no longer than both together: where one of them passes a limit, so does the whole
+  pub log-within : length (logTable P (f .log)) ≤ length (fullTable P f)
+  unfolding fullTable
+  log-within = over-covers idOf (logTable P (f .log)) (clogTable (f .clog)) (log-ascending P (f .log)) (clog-ascending (f .clog))
+
+  pub clog-within : length (clogTable (f .clog)) ≤ length (fullTable P f)
+  unfolding fullTable
+  clog-within = over-grows (logTable P (f .log)) (clogTable (f .clog))
 
   -- ---- the table of an opened store
 

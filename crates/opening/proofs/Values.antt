@@ -1,5 +1,5 @@
--- Document 01's values that are to be proved, all of them in one list: those of the crate world (what logs hold, the clog's bytes, its table, the versions), and
--- the openings. Of an opening the value is its number, the entries of its table, and its next commit time. Assumes nothing.
+-- Document 01's values that are to be proved, all of them in one list: those of the crate world (what logs hold, the clog's bytes, its table, the versions),
+-- and the openings. Of an opening the value is its number, the entries of its table, and its next commit time. Assumes nothing.
 use mathlib.Core.Path.{_≡_, refl, sym, ap, _∙_}
 use mathlib.Core.List.{List, [], _∷_, _++_, map, map-map, map-append}
 use Prim.Native.Nat.{ℕ}

@@ -32,7 +32,7 @@ use Rattle.fields.specs.Answers.{Told}
 use Rattle.wal.specs.Records.{logMagic, Record, image, begin, commit, abort, checkpoint, endingNo, recordsIn, logOf}
 use Rattle.table.specs.declared.Status.the-variants.{Active, Committed, Aborted}
 use Rattle.table.specs.declared.Entry.{Entry}
-use Rattle.table.specs.Entries.{emptyTable, insertAll, activeToAborted, largestId, largestTime, next64}
+use Rattle.table.specs.Entries.{emptyTable, idOf, insertAll, activeToAborted, largestId, largestTime, next64}
 use Rattle.clog.specs.Slots.{clogMagic, validClog, openClog, recordAll, entriesIn, settled}
 use Rattle.meta.specs.Page.{hasMeta, storedNext, storedTime, storedMark, formatNo}
 use Rattle.frames.specs.Pages.{badPage, emptyFrames, emptyTouched}
@@ -97,7 +97,7 @@ fullTable P f = insertAll (logTable P (f .log)) (clogTable (f .clog))
 
 -- ---- the number
 
--- an image that has no room in a database of this size, and an id that has none in a clog of this size
+-- an image that has no room in a database buffer of this size
 abbrev pub pastDb : ℕ → ℕ → Record → Bool
 pastDb P size (image page bytes) = badPage page || ltb size (page * P + length bytes)
 pastDb P size (begin id) = false
@@ -105,19 +105,16 @@ pastDb P size (commit id time) = false
 pastDb P size (abort id) = false
 pastDb P size checkpoint = false
 
-abbrev pub pastClog : ℕ → Record → Bool
-pastClog size (image page bytes) = false
-pastClog size (begin id) = leb size (8 + id / 4)
-pastClog size (commit id time) = leb size (8 + id / 4)
-pastClog size (abort id) = leb size (8 + id / 4)
-pastClog size checkpoint = false
+-- an id whose byte lies past a clog buffer of this size
+abbrev pub pastClog : ℕ → Entry → Bool
+pastClog size e = leb size (8 + idOf e / 4)
 
 -- 4, 5, 6, 7
 unfoldable pub openRoomNo : ℕ → Files → ℕ
 openRoomNo P f =
     cond (ltb (room (f .log)) 8) 4
     (cond (anyOf (map (pastDb P (room (f .db))) (records P (f .log)))) 5
-    (cond (ltb (room (f .clog)) 8 || anyOf (map (pastClog (room (f .clog))) (records P (f .log)))) 6
+    (cond (ltb (room (f .clog)) 8 || anyOf (map (pastClog (room (f .clog))) (statuses (records P (f .log))))) 6
     (cond (ltb 256 (length (fullTable P f))) 7 0)))
 
 unfoldable pub openNo : ℕ → Files → List ℕ → ℕ
