@@ -177,7 +177,7 @@ bare-short P log h = go (starts logMagic (content log)) refl
 pub bare-magic : (P : ℕ) (log : File) → content log ≡ logMagic → Bare P log
 bare-magic P log e = bare P log (rw e (rw append-nil at (log-magic P []) ∙ parse-none P 8))
 
-or-zero : (n : ℕ) → orElse n 0 ≡ n
+pub or-zero : (n : ℕ) → orElse n 0 ≡ n
 or-zero zero = refl
 or-zero (suc n) = refl
 
