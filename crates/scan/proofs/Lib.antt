@@ -2,3 +2,4 @@
 pub mod Sizes
 pub mod Held
 pub mod Turns
+pub mod Surveys
