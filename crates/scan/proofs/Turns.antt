@@ -90,7 +90,7 @@ module _ (P db clog : ℕ) where
 -- ---- turn by turn
 
 -- where the log ends nothing is left
-rest-none : (P : ℕ) (buf : List ℕ) (len : ℕ) → parse P len (drop len (take len buf)) ≡ record { found = []; ending = clean }
+pub rest-none : (P : ℕ) (buf : List ℕ) (len : ℕ) → parse P len (drop len (take len buf)) ≡ record { found = []; ending = clean }
 rest-none P buf len =
     let l : length (take len buf) ≤ len = rw length-take (omega arith) in
     rw (drop-of-length-le (take len buf) l, parse-none)
@@ -111,24 +111,37 @@ module _ (P : ℕ) (buf : List ℕ) (len : ℕ) (fit : unfit 16777216 (length bu
           let l = ap length (starts-means logMagic (take len buf) e) in
           omega (arith, n, l, length-append logMagic (drop (length logMagic) (take len buf)))
 
-  -- what a turn of a loop over the records needs: the place moves on and stays inside, and what is found moves over
-  pub record Moved (db clog at : ℕ) (s : Scanned) (r : Read) : Type 0 where
+  -- what a turn of a loop over the records needs: the place moves on and stays inside
+  pub record Ahead (at : ℕ) (r : Read) : Type 0 where
     pub further : at < nextOf len r
     pub within : nextOf len r ≤ len
-    pub same : onto P db clog (withRead P db clog r s) (parse P (nextOf len r) (drop (nextOf len r) (take len buf)))
-        ≡ onto P db clog s (parse P at (drop at (take len buf)))
 
-  pub moved : (db clog at : ℕ) (s : Scanned) (r : Read) → at < len → readTold r ≡ readIn P (fileOf buf len) at → Moved db clog at s r
-  unfolding onto recordsIn statuses anyOf holdAll
-  moved db clog at s r l e = go (turn P buf len at r fit (omega arith) e)
-    where
-      go : Turn P buf len at r → Moved db clog at s r
-      go (stops f h p) = absurd (omega arith)
-      go (breaks m f p) = record { further = rw f l; within = rw f (omega arith); same = rw (f, p, rest-none P buf len) }
-      go (fails f p) = record { further = rw f l; within = rw f (omega arith); same = rw (f, p, rest-none P buf len) }
-      go (goes x next f g h p) =
-          let z = rw p at (all-sized P at (drop at (take len buf))) in
-          record { further = rw f g; within = rw f h; same = rw (f, p) (onto-record P db clog at (at + 1) x (parse P next (drop next (take len buf))) s (z .0)) }
+  module _ (at : ℕ) (r : Read) (l : at < len) (e : readTold r ≡ readIn P (fileOf buf len) at) where
+    pub ahead : Ahead at r
+    ahead = go (turn P buf len at r fit (omega arith) e)
+      where
+        go : Turn P buf len at r → Ahead at r
+        go (stops f h p) = absurd (omega arith)
+        go (breaks m f p) = record { further = rw f l; within = rw f (omega arith) }
+        go (fails f p) = record { further = rw f l; within = rw f (omega arith) }
+        go (goes x next f g h p) = record { further = rw f g; within = rw f h }
+
+    -- and what is found moves over
+    pub moved : (db clog : ℕ) (s : Scanned) →
+        onto P db clog (withRead P db clog r s) (parse P (nextOf len r) (drop (nextOf len r) (take len buf)))
+        ≡ onto P db clog s (parse P at (drop at (take len buf)))
+    unfolding onto recordsIn statuses anyOf holdAll
+    moved db clog s = go (turn P buf len at r fit (omega arith) e)
+      where
+        go : Turn P buf len at r →
+            onto P db clog (withRead P db clog r s) (parse P (nextOf len r) (drop (nextOf len r) (take len buf)))
+            ≡ onto P db clog s (parse P at (drop at (take len buf)))
+        go (stops f h p) = absurd (omega arith)
+        go (breaks m f p) = rw (f, p, rest-none P buf len)
+        go (fails f p) = rw (f, p, rest-none P buf len)
+        go (goes x next f g h p) =
+            let z = rw p at (all-sized P at (drop at (take len buf))) in
+            rw (f, p) (onto-record P db clog at (at + 1) x (parse P next (drop next (take len buf))) s (z .0))
 
   -- the pass is done
   pub scan-done : (db clog at : ℕ) (s : Scanned) → at ≡ len → onto P db clog s (parse P at (drop at (take len buf))) ≡ found P db clog (fileOf buf len) →

@@ -8,7 +8,7 @@ use lib.ListN.{take, drop}
 use Rattle.fields.specs.Files.{fileOf}
 use Rattle.wal.specs.Records.{parse}
 use Rattle.scan.specs.Scans.{found, scanned}
-use Rattle.scan.proofs.Turns.{onto, onto-start, start-within, moved, scan-done}
+use Rattle.scan.proofs.Turns.{onto, onto-start, start-within, ahead, moved, scan-done}
 use Rattle.scan.proofs.scan.Statement.{statement}
 use Rattle.scan.proofs.scan.Tie as tie
 
@@ -61,7 +61,7 @@ loop-less c =
     let a = f .before .before .before .args in
     let u = sym (f .before .is-unfit .ensures) ∙ f .if1 .left in
     let r = c .before .before .read-record in
-    let m = moved 4096 (a .log .now) (a .len) u (a .db) (a .clog) (l .loop .at) (l .loop .s) (r .result) (omega arith) (r .ensures) in
+    let m = ahead 4096 (a .log .now) (a .len) u (l .loop .at) (r .result) (omega arith) (r .ensures) in
     rw (c .next-place .ensures) (omega (arith, m .further, m .within))
 
 loop-again : tie.Need-loop-again Inv-loop μ-loop
@@ -71,8 +71,9 @@ loop-again c =
     let a = f .before .before .before .args in
     let u = sym (f .before .is-unfit .ensures) ∙ f .if1 .left in
     let r = c .before .before .read-record in
-    let m = moved 4096 (a .log .now) (a .len) u (a .db) (a .clog) (l .loop .at) (l .loop .s) (r .result) (omega arith) (r .ensures) in
-    rw (c .next-place .ensures, c .before .on-read .ensures) (m .within, m .same ∙ c .before .before .before .before .loop .inv .1)
+    let m = ahead 4096 (a .log .now) (a .len) u (l .loop .at) (r .result) (omega arith) (r .ensures) in
+    let k = moved 4096 (a .log .now) (a .len) u (l .loop .at) (r .result) (omega arith) (r .ensures) (a .db) (a .clog) (l .loop .s) in
+    rw (c .next-place .ensures, c .before .on-read .ensures) (m .within, k ∙ l .loop .inv .1)
 
 returns-2 : tie.Need-returns-2 Inv-loop μ-loop
 returns-2 c =
