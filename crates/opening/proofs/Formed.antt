@@ -173,7 +173,7 @@ magic-long : length clogMagic ≡ 8
 unfolding clogMagic
 magic-long = refl
 
-open-fits : (clog : File) → clog .len ≤ room clog → 8 ≤ room clog → (openClog clog .len ≤ room (openClog clog)) × (8 ≤ openClog clog .len)
+pub open-fits : (clog : File) → clog .len ≤ room clog → 8 ≤ room clog → (openClog clog .len ≤ room (openClog clog)) × (8 ≤ openClog clog .len)
 open-fits clog h l = go (validClog clog) refl
   where
     go : (x : Bool) → validClog clog ≡ x → (openClog clog .len ≤ room (openClog clog)) × (8 ≤ openClog clog .len)
@@ -207,7 +207,7 @@ kept-known c = go (eqb c 0) (eqb c 2)
     go false false = refl
 
 module _ (P : ℕ) (f : Files) (frames : List ℕ) (ok : openNo P f frames ≡ 0) where
-  ids-fit : AllFit 8 0 (room (f .clog)) (logTable P (f .log))
+  pub ids-fit : AllFit 8 0 (room (f .clog)) (logTable P (f .log))
   ids-fit =
       fit-by-status 8 0 (room (f .clog)) (logTable P (f .log)) (log-ascending P (f .log)) (λ id s h.
       let w = settled-is (lastWord id (records P (f .log))) s (sym (log-word P (f .log) id) ∙ h) in
