@@ -39,7 +39,7 @@ pub struct Changed {
 }
 
 // Refusal 1.
-fn buffers_bad(lens: Lens, log: &[u8], db: &[u8], clog: &[u8], frames: &[u8]) -> bool
+pub fn buffers_bad(lens: Lens, log: &[u8], db: &[u8], clog: &[u8], frames: &[u8]) -> bool
     ensures { λ r. ⌜ r ≡ badBuffers 4096 (filesOf lens (now (log .entry)) (now (db .entry)) (now (clog .entry))) (now (frames .entry)) ⌝ }
 {
     if fields::is_unfit(numbers::BUFFER_LIMIT, log.len(), lens.log) {

@@ -1,0 +1,17 @@
+-- `opens::log_time` meets its contract. Assumes nothing.
+use mathlib.Core.Path.{_∙_}
+use borrow.Author.Needs.{needs}
+use Rattle.opens.proofs.log_time.Statement.{statement}
+use Rattle.opens.proofs.log_time.Tie as tie
+
+largest-time-requires : tie.Need-largest-time-requires
+largest-time-requires c κs = search needs
+
+next-time-requires : tie.Need-next-time-requires
+next-time-requires c κs = search needs
+
+returns : tie.Need-returns
+returns c = c .next-time .ensures ∙ rw (c .before .largest-time .ensures)
+
+pub log-time-spec : {M : Type 1} → statement M
+log-time-spec = tie.close (tie.spec largest-time-requires next-time-requires returns)

@@ -1,0 +1,5 @@
+-- The laws of the crate's definitions, which callers' proofs cite.
+pub mod Sizes
+pub mod Held
+pub mod Turns
+pub mod Surveys
