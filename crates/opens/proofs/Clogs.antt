@@ -19,6 +19,7 @@ use Rattle.table.specs.declared.Entry.{Entry}
 use Rattle.table.specs.Entries.{blank, idOf}
 use Rattle.clog.specs.declared.Loaded.{Loaded}
 use Rattle.clog.specs.Slots.{clogMagic, codeOf, validClog, openClog, setSlot, recordAll, codes, entriesFrom, entriesIn, inUse, settled}
+use Rattle.clog.proofs.Refusals.{fit-ok}
 use Rattle.clog.specs.Calls as calls
 use Rattle.clog.specs.Calls.{resetNo, recordNo, loadNo, wiped, recorded, LoadOutcome, loadOutcome, loadDecided, loaded}
 use Rattle.clog.proofs.SlotLaws.{record-room, record-len, settled-room, settled-len}
@@ -74,10 +75,10 @@ module _ (es : List Entry) (count k n : ℕ) (clog : List ℕ) (low : 0 < k) (he
       rw (getD-take count es (k - 1) blank c) at (index-false (pastClog (length clog)) (take count es) (k - 1) past l)
 
   no-zero : recordNo 8 0 (idOf (getD es (k - 1) blank)) (length clog) n ≡ 0
-  unfolding recordNo calls.unfit
+  unfolding recordNo
   no-zero =
       let z : idOf (getD es (k - 1) blank) - 0 ≡ idOf (getD es (k - 1) blank) = omega arith in
-      rw (le-ltb 1048576 (length clog) small, le-ltb (length clog) n fits, le-ltb n 8 head, z, fit-here)
+      rw (fit-ok 8 (length clog) n small fits head, z, fit-here)
 
   pub record Put (r : Answer) (out : List ℕ) : Type 0 where
     pub same : recordAll 8 0 (take (k - 1) es) (fileOf out (lengthOf r)) ≡ recordAll 8 0 (take k es) (fileOf clog n)
@@ -114,11 +115,11 @@ module _ (es : List Entry) (count k n : ℕ) (clog : List ℕ) (low : 0 < k) (he
 
 module _ (clog : File) (fit : unfit 1048576 (room clog) (clog .len) ≡ false) (large : 8 ≤ room clog) where
   reset-zero : resetNo (room clog) (clog .len) ≡ 0
-  unfolding resetNo calls.unfit
+  unfolding resetNo
   reset-zero =
       let m = fit-means _ _ _ fit in
       let z : 0 ≤ clog .len = omega arith in
-      rw (le-ltb 1048576 (room clog) (m .0), le-ltb (room clog) (clog .len) (m .1), le-ltb (clog .len) 0 z, le-ltb (room clog) 8 large)
+      rw (fit-ok 0 (room clog) (clog .len) (m .0) (m .1) z, le-ltb (room clog) 8 large)
 
   pub is-reset : (r : Answer) (out : List ℕ) → outcome r out ≡ wiped clog → fileOf out (lengthOf r) ≡ header clogMagic clog
   unfolding wiped
@@ -140,17 +141,12 @@ module _ (clog : File) (fit : unfit 1048576 (room clog) (clog .len) ≡ false) (
           rw (open-reset clog v, header-content clogMagic clog m, z) (omega arith)
 
   load-zero : length (clogTable clog) ≤ 256 → loadNo 256 8 (openClog clog) ≡ 0
-  unfolding loadNo calls.unfit
+  unfolding loadNo
   load-zero h =
       let m = fit-means _ _ _ fit in
       let o = open-fits clog (m .1) large in
       let s : room (openClog clog) ≤ 1048576 = rw (open-room clog) (m .0) in
-      rw (
-        le-ltb 1048576 (room (openClog clog)) s,
-        le-ltb (room (openClog clog)) (openClog clog .len) (o .0),
-        le-ltb (openClog clog .len) 8 (o .1),
-        le-ltb 256 (inUse 8 (content (openClog clog))) (open-use h),
-      )
+      rw (fit-ok 8 (room (openClog clog)) (openClog clog .len) s (o .0) (o .1), le-ltb 256 (inUse 8 (content (openClog clog))) (open-use h))
 
   pub is-loaded : length (clogTable clog) ≤ 256 → (r : Loaded) (out : List ℕ) → loadOutcome r out ≡ loaded 256 8 0 (openClog clog) →
       fileOf out (lengthOf (r .answer)) ≡ settled 8 (openClog clog)

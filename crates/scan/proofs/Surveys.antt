@@ -19,6 +19,7 @@ use Rattle.table.specs.Entries.{emptyTable, laid, insertAll, activeToAborted, b
 use Rattle.table.proofs.Facts.{list-laid, laid-laid, over-grows, settle-size, bounded-yes, bounded-no}
 use Rattle.clog.specs.declared.Loaded.{Loaded}
 use Rattle.clog.specs.Slots.{validClog, entriesIn, inUse}
+use Rattle.clog.proofs.Refusals.{fit-ok}
 use Rattle.clog.specs.Calls as calls
 use Rattle.clog.specs.Calls.{loadNo, tableBy, loadDecided, loaded, Seen, seen, seenOf}
 use Rattle.clog.proofs.TableLaws.{valid-long}
@@ -42,10 +43,7 @@ module _ (clog : File) where
 
   -- a clog that fits its buffer and is valid can be read
   can-read : unfit 1048576 (room clog) (clog .len) ≡ false → validClog clog ≡ true → calls.unfit 8 (room clog) (clog .len) ≡ false
-  unfolding calls.unfit
-  can-read u v =
-      let m = fit-means _ _ _ u in
-      rw (le-ltb 1048576 (room clog) (m .0), le-ltb (room clog) (clog .len) (m .1), le-ltb (clog .len) 8 (valid-long clog v))
+  can-read u v = let m = fit-means _ _ _ u in fit-ok 8 (room clog) (clog .len) (m .0) (m .1) (valid-long clog v)
 
   in-loaded : unfit 1048576 (room clog) (clog .len) ≡ false → validClog clog ≡ true → (l : Loaded) → seen l ≡ seenOf (loaded 256 8 0 clog) →
       Order 256 (length (entriesIn 8 0 (content clog))) →
