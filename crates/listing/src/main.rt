@@ -88,7 +88,8 @@ fn entry(e: EntryAt) {
     match e {
         EntryAt::Is(found) => {
             io::print_decimal(STDOUT_FILENO, found.id.0);
-            status(found.status);
+            let s = found.status;
+            status(s);
         }
         EntryAt::Nothing => word(b""),
     }
@@ -120,7 +121,8 @@ fn report(
     frames: &[u8; 4096],
 ) {
     let r = opens::open(lens, log, db, clog, &frames[..]);
-    let number = number_of(r.verdict);
+    let verdict = r.verdict;
+    let number = number_of(verdict);
     line(b"open", number as u64);
     if number != 0 {
         return;
