@@ -60,7 +60,8 @@ module _ (P : ℕ) (buf : List ℕ) (len at : ℕ) (fit : unfit 16777216 (length
   laid-turn p r e db = rw image-first (go (turn P buf len at r fit (omega arith) e))
     where
       go : Turn P buf len at r →
-          replay P (recordsIn (parse P (nextOf len r) (drop (nextOf len r) (take len buf)) .found)) (laidPage P (readPage r) (firstPage (parse P at (drop at (take len buf)) .found)) db)
+          replay P (recordsIn (parse P (nextOf len r) (drop (nextOf len r) (take len buf)) .found))
+          (laidPage P (readPage r) (firstPage (parse P at (drop at (take len buf)) .found)) db)
           ≡ replay P (recordsIn (parse P at (drop at (take len buf)) .found)) db
       go (stops f h q) = absurd (omega arith)
       go (breaks m f q) = rw (f, q, rest-none P buf len)

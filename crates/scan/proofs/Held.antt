@@ -45,7 +45,12 @@ hold-more N e l = go (order N (length l)) (order N (length (insertEntry e l)))
         let m : N < length (insertEntry e l) = omega (arith, set-grows e l) in
         rw (bounded-no N (emptyTable N) l p, bounded-no N (emptyTable N) (insertEntry e l) m)
     go (most p) (less q) =
-        rw (bounded-yes N (emptyTable N) l p, list-laid, bounded-no N (laid (emptyTable N) l) (insertEntry e l) q, bounded-no N (emptyTable N) (insertEntry e l) q)
+        rw (
+          bounded-yes N (emptyTable N) l p,
+          list-laid,
+          bounded-no N (laid (emptyTable N) l) (insertEntry e l) q,
+          bounded-no N (emptyTable N) (insertEntry e l) q,
+        )
     go (most p) (most q) =
         rw (
           bounded-yes N (emptyTable N) l p,

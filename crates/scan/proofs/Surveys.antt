@@ -186,7 +186,10 @@ module _ (P : ℕ) (f : Files) (frames : List ℕ) where
           (g : t ≡ together 256 (s .held) (bounded 256 (emptyTable 256) (clogTable (f .clog)))) where
         tables-are : t ≡ tablesBy 256 (logTable P (f .log)) (fullTable P f)
         unfolding found logTable fullTable
-        tables-are = g ∙ rw is-found (join 256 (insertAll (statuses (records P (f .log))) []) (clogTable (f .clog)) (log-within P f) (order _ _) (order _ _) (order _ _))
+        tables-are =
+            g
+            ∙ rw is-found
+            (join 256 (insertAll (statuses (records P (f .log))) []) (clogTable (f .clog)) (log-within P f) (order _ _) (order _ _) (order _ _))
 
         pub survey-full : (t .number ≡ 0 → ⊥) → t ≡ surveyed P f frames
         unfolding openNo

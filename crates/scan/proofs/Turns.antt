@@ -1,5 +1,5 @@
--- Laws of the pass over a log, over the page size P: what is found so far, with what the records from a place on add to it; a turn moves one record from the one
--- to the other. Assumes nothing.
+-- Laws of the pass over a log, over the page size P: what is found so far, with what the records from a place on add to it;
+-- a turn moves one record from the one to the other. Assumes nothing.
 use mathlib.Core.Path.{_≡_, refl, sym, ap, _∙_}
 use mathlib.Core.List.{List, [], _∷_, _++_, map}
 use mathlib.Core.Bool.{Bool, true, false, cond, _||_}
