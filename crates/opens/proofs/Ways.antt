@@ -25,7 +25,7 @@ use Rattle.meta.specs.Page.{hasMeta, storedNext, storedTime, storedMark, stored
 use Rattle.frames.specs.Pages.{emptyFrames, emptyTouched}
 use Rattle.frames.proofs.Lists.{neither}
 use Rattle.world.specs.declared.Lens.{Lens}
-use Rattle.world.specs.World.{Files, filesOf}
+use Rattle.world.specs.World.{filesOf}
 use Rattle.world.specs.Refusals.{badBuffers}
 use Rattle.world.proofs.FormLaws.{none-of}
 use Rattle.form.specs.declared.Store.{Store}

@@ -1,14 +1,14 @@
 -- Laws of the images of a log laid into a database, over the page size P: the page bytes that the reader shows at a place are those of the record there, and a
 -- turn lays one record and leaves the others. Assumes nothing.
-use mathlib.Core.Path.{_≡_, refl, sym, ap, _∙_}
+use mathlib.Core.Path.{_≡_, refl, ap}
 use mathlib.Core.List.{List, [], _∷_}
-use mathlib.Core.Bool.{true, false, cond}
+use mathlib.Core.Bool.{true, false}
 use Prim.Native.Nat.{ℕ, _+_, _≤_, _<_}
 use native.Mathlib.Omega.{arith}
 use borrow.Author.Tests.{le-ltb, ne-eqb}
 use lib.ListN.{length, take, drop}
 use Rattle.fields.specs.Files.{File, fileOf, content, unfit}
-use Rattle.wal.specs.Records.{Record, image, begin, commit, abort, checkpoint, decode, ended, Placed, parse, recordsIn, startOf, logOf}
+use Rattle.wal.specs.Records.{Record, image, begin, commit, abort, checkpoint, decode, ended, Placed, parse, recordsIn, logOf}
 use Rattle.wal.specs.Reading.{readTold, readIn, startIn, outside, pageIn, pageOf, imageIn, shown}
 use Rattle.wal.specs.declared.Read.{Read}
 use Rattle.wal.proofs.RecordLaws.{Fronted, at-end, bad, short, whole, front}

@@ -1,7 +1,7 @@
 -- Laws of the statuses that a pass holds: each way out of `hold`, and that holding statuses one after the other is setting them all, or 7. Assumes nothing.
-use mathlib.Core.Path.{_≡_, refl, sym, _∙_}
+use mathlib.Core.Path.{_≡_, refl, sym}
 use mathlib.Core.List.{List, [], _∷_}
-use Prim.Native.Nat.{ℕ, zero, suc, _≤_, _<_}
+use Prim.Native.Nat.{ℕ, zero, suc, _<_}
 use native.Mathlib.Omega.{arith}
 use lib.ListN.{length}
 use Rattle.fields.proofs.Tests.{Order, less, most, order}

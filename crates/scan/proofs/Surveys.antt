@@ -24,9 +24,9 @@ use Rattle.clog.specs.Calls.{loadNo, tableBy, loadDecided, loaded, Seen, seen, 
 use Rattle.clog.proofs.TableLaws.{valid-long}
 use Rattle.meta.specs.Page.{formatNo}
 use Rattle.world.specs.World.{Files}
-use Rattle.world.specs.Refusals.{anyOf, orElse, badBuffers}
+use Rattle.world.specs.Refusals.{orElse, badBuffers}
 use Rattle.world.proofs.FormLaws.{none-of}
-use Rattle.opening.specs.Opening.{records, endNo, statuses, logTable, clogTable, fullTable, openRoomNo, openNo}
+use Rattle.opening.specs.Opening.{records, statuses, logTable, clogTable, fullTable, openRoomNo, openNo}
 use Rattle.opening.proofs.Tables.{clog-none, clog-held, log-within}
 use Rattle.scan.specs.declared.Scanned.{Scanned}
 use Rattle.scan.specs.declared.Surveyed.{Surveyed}
