@@ -1,14 +1,12 @@
 -- Laws of the clog's part in an opening: an accepted answer and the buffer's bytes are the new file; a table recorded entry by entry, from the last one on; and
 -- opening, loading and recording one after the other. Assumes nothing.
 use mathlib.Core.Path.{_≡_, refl, sym, ap, _∙_}
-use mathlib.Core.List.{List, [], _∷_, _++_, map}
-use mathlib.Core.List.{List·Memᴰ, List·Memᴰ·head, List·Memᴰ·tail}
-use mathlib.Core.Bool.{Bool, true, false, cond, _||_}
+use mathlib.Core.List.{List, [], _∷_, _++_, map, List·Memᴰ·head, List·Memᴰ·tail}
+use mathlib.Core.Bool.{Bool, true, false}
 use Prim.Native.Nat.{ℕ, zero, suc, _+_, _-_, _/_, _≤_, _<_, max}
 use native.Mathlib.Omega.{arith}
 use borrow.Author.Tests.{lt-leb, le-ltb, leb-false}
-use lib.Dec.{leb}
-use lib.ListN.{length, take, drop, getD, length-take}
+use lib.ListN.{length, take, getD, length-take}
 use lib.Seq.{take-suc, getD-take}
 use Rattle.fields.specs.declared.Answer.{Answer}
 use Rattle.fields.specs.declared.Answer.the-variants.{Accepted, Refused}
@@ -22,7 +20,7 @@ use Rattle.clog.specs.Slots.{clogMagic, codeOf, validClog, openClog, setSlot, r
 use Rattle.clog.proofs.Refusals.{fit-ok}
 use Rattle.clog.specs.Calls as calls
 use Rattle.clog.specs.Calls.{resetNo, recordNo, loadNo, wiped, recorded, LoadOutcome, loadOutcome, loadDecided, loaded}
-use Rattle.clog.proofs.SlotLaws.{record-room, record-len, settled-room, settled-len}
+use Rattle.clog.proofs.SlotLaws.{record-len, settled-len}
 use Rattle.clog.proofs.TableLaws.{AllFit, record-append, open-kept, open-reset, open-room}
 use Rattle.frames.proofs.Lists.{neither}
 use Rattle.world.specs.Refusals.{anyOf}

@@ -1,9 +1,9 @@
--- Laws for the ways out of `open`, over the page size P: refused with nothing changed, stopped at a bad record with the images laid, and accepted. The premises are
--- what the functions that it calls promise. Assumes nothing.
+-- Laws for the ways out of `open`, over the page size P: refused with nothing changed, stopped at a bad record with the images laid, and accepted.
+-- The premises are what the functions that it calls promise. Assumes nothing.
 use mathlib.Core.Path.{_≡_, refl, sym, ap, _∙_}
-use mathlib.Core.List.{List, [], _∷_, map}
+use mathlib.Core.List.{List}
 use mathlib.Core.Bool.{Bool, true, false, cond, _||_}
-use Prim.Native.Nat.{ℕ, zero, suc, _≤_, _<_}
+use Prim.Native.Nat.{ℕ, zero, suc, _≤_}
 use native.Mathlib.Omega.{arith}
 use borrow.Author.Tests.{le-ltb, ne-eqb}
 use lib.Dec.{eqb}
@@ -25,13 +25,13 @@ use Rattle.meta.specs.Page.{hasMeta, storedNext, storedTime, storedMark, stored
 use Rattle.frames.specs.Pages.{emptyFrames, emptyTouched}
 use Rattle.frames.proofs.Lists.{neither}
 use Rattle.world.specs.declared.Lens.{Lens}
-use Rattle.world.specs.World.{Files, filesOf}
-use Rattle.world.specs.Refusals.{anyOf, orElse, badBuffers}
+use Rattle.world.specs.World.{filesOf}
+use Rattle.world.specs.Refusals.{badBuffers}
 use Rattle.world.proofs.FormLaws.{none-of}
 use Rattle.form.specs.declared.Store.{Store}
 use Rattle.form.specs.Store.{laidStore}
 use Rattle.opening.specs.declared.Verdict.the-variants.{Accepted, Refused, Torn, Unknown}
-use Rattle.opening.specs.Opening.{records, replay, replayed, logTable, clogTable, fullTable, pastClog, openNo, logTime, withMeta, withoutMeta, hasLaid, noStore, openedAs, opened}
+use Rattle.opening.specs.Opening.{records, replayed, logTable, fullTable, openNo, logTime, withMeta, withoutMeta, hasLaid, noStore, openedAs, opened}
 use Rattle.opening.proofs.Laws.{world-meta, world-plain, opened-refused, opened-torn, opened-unknown, opened-accepted}
 use Rattle.opening.proofs.Tables.{clog-within}
 use Rattle.opening.proofs.Formed.{no-means, replay-room, replay-fits, ids-fit}
@@ -39,7 +39,7 @@ use Rattle.scan.specs.declared.Surveyed.{Surveyed}
 use Rattle.scan.specs.Surveys.{surveyed}
 use Rattle.scan.proofs.Surveys.{clog-fits}
 use Rattle.replay.specs.Replay.{laidFrom}
-use Rattle.opens.specs.Opens.{lengthOf, clogBy, metaCounters, plainCounters, storeAtRest, storeBy}
+use Rattle.opens.specs.Opens.{lengthOf, Loadable, clogBy, metaCounters, plainCounters, storeAtRest, storeBy}
 use Rattle.opens.proofs.Clogs.{answered, none-past}
 
 -- ---- the number
@@ -132,23 +132,16 @@ module _ (P : ℕ) (lens : Lens) (log db clog frames : List ℕ) where
     full-is s e = rw (e, ok)
 
     -- what the clog's part asks for
-    pub record Ready (logged : Table) : Type 0 where
-      pub fits : unfit 1048576 (length clog) (lens .clog) ≡ false
-      pub large : 8 ≤ length clog
-      pub few : length (clogTable (fileOf clog (lens .clog))) ≤ 256
-      pub held : anyOf (map (pastClog (length clog)) (listOf logged)) ≡ false
-
-    pub ready : (logged : Table) → logged ≡ laid (emptyTable 256) (logTable P (fileOf log (lens .log))) → Ready logged
+    pub ready : (logged : Table) → logged ≡ laid (emptyTable 256) (logTable P (fileOf log (lens .log))) → Loadable (fileOf clog (lens .clog)) (listOf logged)
     ready logged e =
         let f = filesOf lens log db clog in
         let p = no-means P f frames ok in
-        let l : listOf logged ≡ logTable P (fileOf log (lens .log)) = rw e (list-laid (emptyTable 256) (logTable P (fileOf log (lens .log)))) in
-        record {
-          fits = clog-fits P f frames (not-bad (λ h. omega arith));
-          large = p .clog-room;
-          few = omega (arith, p .entries, clog-within P f);
-          held = rw l (none-past (length clog) (logTable P (fileOf log (lens .log))) (ids-fit P f frames ok));
-        }
+        let l : listOf logged ≡ logTable P (fileOf log (lens .log)) = rw e (list-laid (emptyTable 256) (logTable P (fileOf log (lens .log)))) in (
+          clog-fits P f frames (not-bad (λ h. omega arith)),
+          p .clog-room,
+          omega (arith, p .entries, clog-within P f),
+          rw l (none-past (length clog) (logTable P (fileOf log (lens .log))) (ids-fit P f frames ok)),
+        )
 
     -- the log is cut back to its magic
     cut-zero : truncateNo (length log) (lens .log) ≡ 0
@@ -157,7 +150,8 @@ module _ (P : ℕ) (lens : Lens) (log db clog frames : List ℕ) where
         let p = no-means P (filesOf lens log db clog) frames ok in
         rw (none-of _ 0 (not-bad (λ h. omega arith)), le-ltb (length log) 8 (p .log-room))
 
-    pub is-cut : (r : Answer) (out : List ℕ) → outcome r out ≡ truncated (fileOf log (lens .log)) → fileOf out (lengthOf r) ≡ header logMagic (fileOf log (lens .log))
+    pub is-cut : (r : Answer) (out : List ℕ) → outcome r out ≡ truncated (fileOf log (lens .log)) →
+        fileOf out (lengthOf r) ≡ header logMagic (fileOf log (lens .log))
     unfolding truncated
     is-cut r out e = answered r out _ _ _ cut-zero e
 
@@ -184,8 +178,9 @@ module _ (P : ℕ) (lens : Lens) (log db clog frames : List ℕ) where
           rw (le-ltb 16777216 (room d) a, le-ltb (room d) (d .len) b)
 
       module _ (st : Stored) (es : storedTold st ≡ metaIn P d) (logged full : Table) (el : logged ≡ laid (emptyTable 256) (logTable P (fileOf log (lens .log))))
-          (ef : full ≡ laid (emptyTable 256) (fullTable P (filesOf lens log db clog))) (c l : File) (ec : c ≡ clogBy st (listOf logged) (fileOf clog (lens .clog)))
-          (et : l ≡ header logMagic (fileOf log (lens .log))) (s : Store) (eq : s ≡ storeBy P (record { log = l .len; db = d .len; clog = c .len }) st logged full) where
+          (ef : full ≡ laid (emptyTable 256) (fullTable P (filesOf lens log db clog))) (c l : File)
+          (ec : c ≡ clogBy st (listOf logged) (fileOf clog (lens .clog))) (et : l ≡ header logMagic (fileOf log (lens .log))) (s : Store)
+          (eq : s ≡ storeBy P (record { log = l .len; db = d .len; clog = c .len }) st logged full) where
         -- with a meta page, and without
         with-store : hasMeta P (content d) ≡ true → st ≡ Meta (countersIn (content d)) →
             (c ≡ withMeta P (filesOf lens log db clog) frames .files .clog) × (s ≡ laidStore noStore (withMeta P (filesOf lens log db clog) frames))
@@ -201,7 +196,8 @@ module _ (P : ℕ) (lens : Lens) (log db clog frames : List ℕ) where
             let c' : c ≡ withoutMeta P (filesOf lens log db clog) frames .files .clog = ec ∙ rw k in
             (c', eq ∙ rw (k, c', et, el, list-laid, is-replayed))
 
-        pub out-accepted : openedAs (record { verdict = Accepted (d .len); store = s }) (l .bytes) (d .bytes) (c .bytes) frames ≡ opened P lens log db clog frames
+        pub out-accepted : openedAs (record { verdict = Accepted (d .len); store = s }) (l .bytes) (d .bytes) (c .bytes) frames
+            ≡ opened P lens log db clog frames
         unfolding withMeta withoutMeta
         out-accepted = go (holds P d st db-fits es)
           where

@@ -23,8 +23,8 @@ ghost use Rattle.fields.specs.Files.{fileOf, unfit};
 ghost use Rattle.table.specs.Entries.{listOf};
 ghost use Rattle.clog.specs.Slots.{openClog, recordAll, settled};
 ghost use Rattle.world.specs.Refusals.{anyOf};
-ghost use Rattle.opening.specs.Opening.{clogTable, pastClog, hasLaid, noStore, openedAs, opened};
-ghost use Rattle.opens.specs.Opens.{lengthOf, clogBy, timeBy, metaCounters, plainCounters, storeAtRest, storeBy};
+ghost use Rattle.opening.specs.Opening.{pastClog, hasLaid, noStore, openedAs, opened};
+ghost use Rattle.opens.specs.Opens.{lengthOf, Loadable, clogBy, timeBy, metaCounters, plainCounters, storeAtRest, storeBy};
 
 // The most entries of a table.
 const TABLE_LIMIT: usize = 256;
@@ -116,9 +116,9 @@ fn store_by(lens: Lens, stored: Stored, logged: Table, full: Table) -> Store
     }
 }
 
-// What a refused opening hands out in a store's place.
-fn no_store() -> Store
-    ensures { λ r. ⌜ r ≡ noStore ⌝ }
+// A refused opening hands out the same fixed value in a store's place.
+fn unopened(verdict: Verdict) -> Opened
+    ensures { λ r. ⌜ r ≡ record { verdict = verdict; store = noStore } ⌝ }
 {
     let lens = Lens {
         log: 0,
@@ -130,7 +130,8 @@ fn no_store() -> Store
         time: CommitTime(0),
         mark: TransactionId(0),
     };
-    store_at_rest(lens, c, table::empty())
+    let store = store_at_rest(lens, c, table::empty());
+    Opened { verdict, store }
 }
 
 // ---- the clog
@@ -164,7 +165,7 @@ fn record_all(clog: &mut [u8], len: usize, t: Table) -> usize
 
 // The clog opened and loaded, Active become Aborted in the file too, and the log's statuses recorded over it.
 fn load_clog(clog: &mut [u8], len: usize, logged: Table) -> usize
-    requires { ⌜ (unfit 1048576 (length (now clog)) len ≡ false) × (8 ≤ length (now clog)) × (length (clogTable (fileOf (now clog) len)) ≤ 256) × (anyOf (map (pastClog (length (now clog))) (listOf logged)) ≡ false) ⌝ }
+    requires { ⌜ Loadable (fileOf (now clog) len) (listOf logged) ⌝ }
     ensures { λ r. ⌜ fileOf (now (clog .exit)) r ≡ recordAll 8 0 (listOf logged) (settled 8 (openClog (fileOf (now (clog .entry)) len))) ⌝ }
 {
     let end = length_of(clog::open(clog, len));
@@ -174,7 +175,7 @@ fn load_clog(clog: &mut [u8], len: usize, logged: Table) -> usize
 }
 
 fn clog_by(stored: Stored, clog: &mut [u8], len: usize, logged: Table) -> usize
-    requires { ⌜ (unfit 1048576 (length (now clog)) len ≡ false) × (8 ≤ length (now clog)) × (length (clogTable (fileOf (now clog) len)) ≤ 256) × (anyOf (map (pastClog (length (now clog))) (listOf logged)) ≡ false) ⌝ }
+    requires { ⌜ Loadable (fileOf (now clog) len) (listOf logged) ⌝ }
     ensures { λ r. ⌜ fileOf (now (clog .exit)) r ≡ clogBy stored (listOf logged) (fileOf (now (clog .entry)) len) ⌝ }
 {
     match stored {
@@ -203,25 +204,16 @@ pub fn open(lens: Lens, log: &mut [u8], db: &mut [u8], clog: &mut [u8], frames: 
     ensures { λ r. ⌜ openedAs r (now (log .exit)) (now (db .exit)) (now (clog .exit)) (now (frames .entry)) ≡ opened 4096 lens (now (log .entry)) (now (db .entry)) (now (clog .entry)) (now (frames .entry)) ⌝ }
 {
     let s = scan::survey(lens, &log[..], &db[..], &clog[..], frames);
-    let number = s.number;
-    if !lays(number) {
-        return Opened {
-            verdict: Verdict::Refused(number),
-            store: no_store(),
-        };
+    let no = s.number;
+    if !lays(no) {
+        return unopened(Verdict::Refused(no));
     }
     let n = replay::lay_images(&log[..], lens.log, db, lens.db);
-    if number == numbers::TORN {
-        return Opened {
-            verdict: Verdict::Torn(n),
-            store: no_store(),
-        };
+    if no == numbers::TORN {
+        return unopened(Verdict::Torn(n));
     }
-    if number == numbers::UNKNOWN_TAG {
-        return Opened {
-            verdict: Verdict::Unknown(n),
-            store: no_store(),
-        };
+    if no == numbers::UNKNOWN_TAG {
+        return unopened(Verdict::Unknown(n));
     }
     let stored = meta::read_meta(&db[..], n);
     let logged = s.logged;

@@ -1,14 +1,15 @@
 -- Laws of the images of a log laid into a database, over the page size P: the page bytes that the reader shows at a place are those of the record there, and a
 -- turn lays one record and leaves the others. Assumes nothing.
-use mathlib.Core.Path.{_≡_, refl, sym, ap, _∙_}
+use mathlib.Core.Path.{_≡_, refl, ap}
 use mathlib.Core.List.{List, [], _∷_}
-use mathlib.Core.Bool.{true, false, cond}
-use Prim.Native.Nat.{ℕ, _+_, _≤_, _<_}
+use mathlib.Core.Bool.{true, false}
+use Prim.Native.Nat.{ℕ, _+_, _-_, _*_, _≤_, _<_, max}
 use native.Mathlib.Omega.{arith}
-use borrow.Author.Tests.{le-ltb, ne-eqb}
-use lib.ListN.{length, take, drop}
-use Rattle.fields.specs.Files.{File, fileOf, content, unfit}
-use Rattle.wal.specs.Records.{Record, image, begin, commit, abort, checkpoint, decode, ended, Placed, parse, recordsIn, startOf, logOf}
+use borrow.Author.Tests.{le-ltb, eq-eqb, ne-eqb}
+use lib.ListN.{length, take, drop, replicate}
+use lib.Seq.{sets}
+use Rattle.fields.specs.Files.{File, fileOf, content, lay, unfit}
+use Rattle.wal.specs.Records.{Record, image, begin, commit, abort, checkpoint, decode, ended, Placed, parse, recordsIn, logOf}
 use Rattle.wal.specs.Reading.{readTold, readIn, startIn, outside, pageIn, pageOf, imageIn, shown}
 use Rattle.wal.specs.declared.Read.{Read}
 use Rattle.wal.proofs.RecordLaws.{Fronted, at-end, bad, short, whole, front}
@@ -60,7 +61,8 @@ module _ (P : ℕ) (buf : List ℕ) (len at : ℕ) (fit : unfit 16777216 (length
   laid-turn p r e db = rw image-first (go (turn P buf len at r fit (omega arith) e))
     where
       go : Turn P buf len at r →
-          replay P (recordsIn (parse P (nextOf len r) (drop (nextOf len r) (take len buf)) .found)) (laidPage P (readPage r) (firstPage (parse P at (drop at (take len buf)) .found)) db)
+          replay P (recordsIn (parse P (nextOf len r) (drop (nextOf len r) (take len buf)) .found))
+          (laidPage P (readPage r) (firstPage (parse P at (drop at (take len buf)) .found)) db)
           ≡ replay P (recordsIn (parse P at (drop at (take len buf)) .found)) db
       go (stops f h q) = absurd (omega arith)
       go (breaks m f q) = rw (f, q, rest-none P buf len)
@@ -68,6 +70,19 @@ module _ (P : ℕ) (buf : List ℕ) (len at : ℕ) (fit : unfit 16777216 (length
       go (goes x next f g h q) =
           let z = rw q at (all-sized P at (drop at (take len buf))) in
           rw (f, q) (ap (replay P (recordsIn (parse P next (drop next (take len buf)) .found))) (laid-one (at + 1) x db p (z .0)))
+
+-- ---- the ways out of `lay_page`
+
+module _ (P page len : ℕ) (bytes db : List ℕ) where
+  pub no-page : length bytes ≡ 0 → fileOf db len ≡ laidPage P page bytes (fileOf db len)
+  unfolding laidPage
+  no-page e = rw (eq-eqb (length bytes) 0 e)
+
+  -- the gap filled, then the page
+  pub whole-page : (length bytes ≡ 0 → ⊥) → (filled out : List ℕ) (end : ℕ) → filled ≡ sets db len (replicate (page * P - len) 0) →
+      out ≡ sets filled (page * P) bytes → end ≡ max len (page * P + length bytes) → fileOf out end ≡ laidPage P page bytes (fileOf db len)
+  unfolding laidPage lay
+  whole-page n filled out end e f g = rw (ne-eqb (length bytes) 0 n, f, e, g)
 
 -- ---- a whole log
 

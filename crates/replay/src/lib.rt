@@ -40,9 +40,13 @@ fn lay_page(db: &mut [u8], len: usize, page: u32, bytes: &[u8]) -> usize
         return len;
     }
     let at = page as usize * numbers::PAGE_SIZE;
+    let end = fields::larger(len, at + n);
     fields::zero_fill(db, len, at);
-    fields::lay(db, at, bytes);
-    fields::larger(len, at + n)
+    if db.len() < at {
+        return end;
+    }
+    fields::copy(&mut db[at..], bytes);
+    end
 }
 
 // Every image before the first bad record, whether or not a commit follows. The log's length is end, the database's is len; its new length is answered.

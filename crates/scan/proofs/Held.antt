@@ -1,7 +1,7 @@
 -- Laws of the statuses that a pass holds: each way out of `hold`, and that holding statuses one after the other is setting them all, or 7. Assumes nothing.
-use mathlib.Core.Path.{_≡_, refl, sym, _∙_}
+use mathlib.Core.Path.{_≡_, refl, sym}
 use mathlib.Core.List.{List, [], _∷_}
-use Prim.Native.Nat.{ℕ, zero, suc, _≤_, _<_}
+use Prim.Native.Nat.{ℕ, zero, suc, _<_}
 use native.Mathlib.Omega.{arith}
 use lib.ListN.{length}
 use Rattle.fields.proofs.Tests.{Order, less, most, order}
@@ -45,7 +45,12 @@ hold-more N e l = go (order N (length l)) (order N (length (insertEntry e l)))
         let m : N < length (insertEntry e l) = omega (arith, set-grows e l) in
         rw (bounded-no N (emptyTable N) l p, bounded-no N (emptyTable N) (insertEntry e l) m)
     go (most p) (less q) =
-        rw (bounded-yes N (emptyTable N) l p, list-laid, bounded-no N (laid (emptyTable N) l) (insertEntry e l) q, bounded-no N (emptyTable N) (insertEntry e l) q)
+        rw (
+          bounded-yes N (emptyTable N) l p,
+          list-laid,
+          bounded-no N (laid (emptyTable N) l) (insertEntry e l) q,
+          bounded-no N (emptyTable N) (insertEntry e l) q,
+        )
     go (most p) (most q) =
         rw (
           bounded-yes N (emptyTable N) l p,

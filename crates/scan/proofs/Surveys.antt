@@ -25,9 +25,9 @@ use Rattle.clog.specs.Calls.{loadNo, tableBy, loadDecided, loaded, Seen, seen, 
 use Rattle.clog.proofs.TableLaws.{valid-long}
 use Rattle.meta.specs.Page.{formatNo}
 use Rattle.world.specs.World.{Files}
-use Rattle.world.specs.Refusals.{anyOf, orElse, badBuffers}
+use Rattle.world.specs.Refusals.{orElse, badBuffers}
 use Rattle.world.proofs.FormLaws.{none-of}
-use Rattle.opening.specs.Opening.{records, endNo, statuses, logTable, clogTable, fullTable, openRoomNo, openNo}
+use Rattle.opening.specs.Opening.{records, statuses, logTable, clogTable, fullTable, openRoomNo, openNo}
 use Rattle.opening.proofs.Tables.{clog-none, clog-held, log-within}
 use Rattle.scan.specs.declared.Scanned.{Scanned}
 use Rattle.scan.specs.declared.Surveyed.{Surveyed}
@@ -184,7 +184,10 @@ module _ (P : ℕ) (f : Files) (frames : List ℕ) where
           (g : t ≡ together 256 (s .held) (bounded 256 (emptyTable 256) (clogTable (f .clog)))) where
         tables-are : t ≡ tablesBy 256 (logTable P (f .log)) (fullTable P f)
         unfolding found logTable fullTable
-        tables-are = g ∙ rw is-found (join 256 (insertAll (statuses (records P (f .log))) []) (clogTable (f .clog)) (log-within P f) (order _ _) (order _ _) (order _ _))
+        tables-are =
+            g
+            ∙ rw is-found
+            (join 256 (insertAll (statuses (records P (f .log))) []) (clogTable (f .clog)) (log-within P f) (order _ _) (order _ _) (order _ _))
 
         pub survey-full : (t .number ≡ 0 → ⊥) → t ≡ surveyed P f frames
         unfolding openNo

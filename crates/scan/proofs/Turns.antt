@@ -1,16 +1,16 @@
--- Laws of the pass over a log, over the page size P: what is found so far, with what the records from a place on add to it; a turn moves one record from the one
--- to the other. Assumes nothing.
+-- Laws of the pass over a log, over the page size P: what is found so far, with what the records from a place on add to it;
+-- a turn moves one record from the one to the other. Assumes nothing.
 use mathlib.Core.Path.{_≡_, refl, sym, ap, _∙_}
-use mathlib.Core.List.{List, [], _∷_, _++_, map}
+use mathlib.Core.List.{List, [], _∷_, map}
 use mathlib.Core.Bool.{Bool, true, false, cond, _||_}
-use Prim.Native.Nat.{ℕ, zero, suc, _+_, _*_, _≤_, _<_}
+use Prim.Native.Nat.{ℕ, _+_, _*_, _≤_, _<_}
 use native.Mathlib.Omega.{arith}
 use borrow.Author.Tests.{le-leb, lt-leb}
 use lib.Dec.{ltb}
 use lib.ListN.{length, take, drop, length-take, drop-of-length-le, length-append}
 use lib.Seq.{length-take-le}
 use Rattle.fields.specs.Bytes.{starts}
-use Rattle.fields.specs.Files.{File, fileOf, content, room, unfit}
+use Rattle.fields.specs.Files.{File, fileOf, content, unfit}
 use Rattle.fields.proofs.FileLaws.{fit-means}
 use Rattle.fields.proofs.Stored.{starts-means}
 use Rattle.wal.specs.Records.{logMagic, Record, image, begin, commit, abort, checkpoint, clean, endingNo, Parsed, joined, parse, recordsIn, startOf, logOf}
@@ -25,7 +25,7 @@ use Rattle.form.proofs.Arrays.{or-false}
 use Rattle.opening.specs.Opening.{statuses, pastDb, pastClog}
 use Rattle.opening.proofs.Laws.{or-zero}
 use Rattle.scan.specs.declared.Scanned.{Scanned}
-use Rattle.scan.specs.Scans.{nothing, found, scanned, imagePast, withImage, withStatus, withEnding, withRecord, withRead, nextOf}
+use Rattle.scan.specs.Scans.{nothing, found, scanned, imagePast, withImage, withStatus, withRecord, withRead, nextOf}
 use Rattle.scan.proofs.Sizes.{Sized, all-sized}
 use Rattle.scan.proofs.Held.{holdAll, hold-all, hold-none}
 

@@ -1,8 +1,8 @@
--- One pass over a log's records that changes nothing, before an opening changes anything. Found are: whether an image lies past the database's buffer (5), whether
--- an id's byte lies past the clog's buffer (6), the statuses that the records set, of each id the last one, and how the log ends. All records before the first bad
--- one are tested for 5 and 6, also where the ids are already more than 256. Then the number of an opening. P is the page size. Assumes nothing.
+-- One pass over a log's records that changes nothing, before an opening changes anything. Found are: whether an image lies past the database's buffer (5),
+-- whether an id's byte lies past the clog's buffer (6), the statuses that the records set, of each id the last one, and how the log ends. All records before the
+-- first bad one are tested for 5 and 6, also where the ids are already more than 256. P is the page size. Assumes nothing.
 use Prim.Native.Nat.{ℕ, _+_, _*_}
-use mathlib.Core.List.{List, [], _∷_, map}
+use mathlib.Core.List.{[], map}
 use mathlib.Core.Bool.{Bool, false, cond, _||_}
 use lib.Dec.{ltb}
 use Rattle.fields.specs.Files.{File, room, unfit}

@@ -45,7 +45,8 @@ returns-2 c =
     let e = r .before .before in
     let s = e .before .before .before in
     let a = s .args in
-    rw (c .length-of .ensures, e .enum-told2 .given .1) (is-reset (fileOf (a .clog .now) (a .len)) (s .pre .0) (s .pre .1) (r .reset .result) (r .reset .last .0) (r .reset .ensures))
+    rw (c .length-of .ensures, e .enum-told2 .given .1)
+    (is-reset (fileOf (a .clog .now) (a .len)) (s .pre .0) (s .pre .1) (r .reset .result) (r .reset .last .0) (r .reset .ensures))
 
 same-length-3 : tie.Need-same-length-3
 same-length-3 c = search needs
@@ -56,7 +57,8 @@ returns-3 c =
     let e = r .before .before in
     let s = e .before .before .before in
     let a = s .args in
-    rw (c .length-of2 .ensures, e .enum-told3 .given .1) (is-reset (fileOf (a .clog .now) (a .len)) (s .pre .0) (s .pre .1) (r .reset2 .result) (r .reset2 .last .0) (r .reset2 .ensures))
+    rw (c .length-of2 .ensures, e .enum-told3 .given .1)
+    (is-reset (fileOf (a .clog .now) (a .len)) (s .pre .0) (s .pre .1) (r .reset2 .result) (r .reset2 .last .0) (r .reset2 .ensures))
 
 pub clog-by-spec : {M : Type 1} → statement M
 clog-by-spec =

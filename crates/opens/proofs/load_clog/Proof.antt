@@ -1,10 +1,25 @@
 -- `opens::load_clog` meets its contract: opened, loaded, recorded. Assumes nothing.
-use mathlib.Core.Path.{_∙_}
-use Rattle.fields.specs.Files.{fileOf}
+use mathlib.Core.Path.{_≡_, _∙_}
+use Rattle.fields.specs.Files.{File, fileOf}
+use Rattle.clog.specs.Slots.{openClog, settled}
+use Rattle.opens.specs.Opens.{lengthOf}
 use Rattle.opens.proofs.Clogs.{fit-len, is-open, is-loaded, loads}
 use borrow.Author.Needs.{needs}
 use Rattle.opens.proofs.load_clog.Statement.{statement}
 use Rattle.opens.proofs.load_clog.Tie as tie
+
+-- the file at entry, and what it is once opened and loaded
+abbrev entry : tie.Start → File
+entry c = fileOf (c .args .clog .now) (c .args .len)
+
+ready : (c : tie.After-load) →
+    fileOf (c .load .last .0) (lengthOf (c .load .result .answer)) ≡ settled 8 (openClog (entry (c .before .before .before .before .before .before .before .before)))
+ready c =
+    let o = c .before .before .before .before .before in
+    let s = o .before .before .before in
+    let g = is-open (entry s) (s .pre .0) (s .pre .1) (o .«open» .result) (o .«open» .last .0) (o .«open» .ensures) in
+    is-loaded (entry s) (s .pre .0) (s .pre .1) (s .pre .2) (c .load .result) (c .load .last .0)
+    (c .load .ensures ∙ rw (c .before .before .length-of .ensures, g))
 
 open-requires : tie.Need-open-requires
 open-requires c κs = search needs
@@ -23,12 +38,8 @@ record-all-requires c κs =
     let l = c .before .before .before .before in
     let o = l .before .before .before .before .before in
     let s = o .before .before .before in
-    let a = s .args in
-    let f = fileOf (a .clog .now) (a .len) in
-    let g = is-open f (s .pre .0) (s .pre .1) (o .«open» .result) (o .«open» .last .0) (o .«open» .ensures) in
-    let h = is-loaded f (s .pre .0) (s .pre .1) (s .pre .2) (l .load .result) (l .load .last .0) (l .load .ensures ∙ rw (l .before .before .length-of .ensures, g)) in
     let n = l .load .kept .0 ∙ o .«open» .kept .0 in
-    let m = loads f (s .pre .0) (s .pre .1) (l .load .last .0) _ h in
+    let m = loads (entry s) (s .pre .0) (s .pre .1) (l .load .last .0) _ (ready l) in
     rw (c .length-of2 .ensures, n) (fit-len _ _ _ _ (s .pre .0) (m .within), m .head, s .pre .3)
 
 same-length : tie.Need-same-length
@@ -37,14 +48,7 @@ same-length c = search needs
 returns : tie.Need-returns
 returns c =
     let r = c .before .before in
-    let l = r .before .before .before .before .before in
-    let o = l .before .before .before .before .before in
-    let s = o .before .before .before in
-    let a = s .args in
-    let f = fileOf (a .clog .now) (a .len) in
-    let g = is-open f (s .pre .0) (s .pre .1) (o .«open» .result) (o .«open» .last .0) (o .«open» .ensures) in
-    let h = is-loaded f (s .pre .0) (s .pre .1) (s .pre .2) (l .load .result) (l .load .last .0) (l .load .ensures ∙ rw (l .before .before .length-of .ensures, g)) in
-    r .record-all .ensures ∙ rw (r .before .length-of2 .ensures, h)
+    r .record-all .ensures ∙ rw (r .before .length-of2 .ensures, ready (r .before .before .before .before .before))
 
 pub load-clog-spec : {M : Type 1} → statement M
 load-clog-spec =

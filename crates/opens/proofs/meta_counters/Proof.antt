@@ -28,7 +28,8 @@ returns c =
     let t = c .before in
     let n = t .before .before in
     let i = n .before .before in
-    rw (n .later-id2 .ensures, n .before .later-id .ensures, i .next-id .ensures, i .before .largest-id .ensures, t .later-time .ensures, t .before .log-time .ensures)
+    rw (n .later-id2 .ensures, n .before .later-id .ensures, i .next-id .ensures, i .before .largest-id .ensures)
+    (rw (t .later-time .ensures, t .before .log-time .ensures))
 
 pub meta-counters-spec : {M : Type 1} → statement M
 meta-counters-spec =

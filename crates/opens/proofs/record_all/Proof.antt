@@ -61,7 +61,8 @@ loop-again c =
     let es : length (a .t3 .entries) ≡ 256 = search (needs, length-of-mapped) in
     let i = l .loop .inv in
     let p =
-    put (a .t3 .entries) (a .t3 .count) (l .loop .i) (l .loop .n) (l .loop .clog) (omega arith) (omega (arith, i .0)) (omega (arith, i .0)) (rw (i .1) (s .pre .2)) (i .2) (rw (i .1) (i .3))
+    put (a .t3 .entries) (a .t3 .count) (l .loop .i) (l .loop .n) (l .loop .clog)
+    (omega arith) (omega (arith, i .0)) (omega (arith, i .0)) (rw (i .1) (s .pre .2)) (i .2) (rw (i .1) (i .3))
     (rw (i .1) (m .0)) (r .«record» .result) (r .«record» .last .0) (r .«record» .ensures) in
     let n = r .«record» .kept .0 ∙ i .1 in
     rw (c .length-of .ensures) (omega (arith, i .0), n, omega (arith, i .2, p .longer), omega (arith, p .within, i .1), p .same ∙ i .4)

@@ -39,7 +39,8 @@ loop-holds c =
     let f = c .before in
     let a = f .before .before .before .before .args in
     let u = sym (f .before .is-unfit .ensures) ∙ f .if1 .left in
-    rw (c .start-of .ensures) (start-within 4096 (a .log .now) (a .end) u, refl, laid-start 4096 (fileOf (a .log .now) (a .end)) (fileOf (a .db .now) (a .len)) u)
+    let s = start-within 4096 (a .log .now) (a .end) u in
+    rw (c .start-of .ensures) (s, refl, laid-start 4096 (fileOf (a .log .now) (a .end)) (fileOf (a .db .now) (a .len)) u)
 
 read-record-requires : tie.Need-read-record-requires Inv-loop μ-loop
 read-record-requires c κs = search needs
@@ -75,9 +76,12 @@ loop-again c =
     let u = sym (f .before .is-unfit .ensures) ∙ f .if1 .left in
     let m = ahead 4096 (a .log .now) (a .end) u (l .loop .at) (r .read-record .result) (omega arith) (r .read-record .ensures) in
     let p = c .before .before .before in
+    let b = p .before .before .before .image .ensures .bytes in
     let k =
-    laid-turn 4096 (a .log .now) (a .end) (l .loop .at) u (omega arith) (lit< tt) (r .read-record .result) (r .read-record .ensures) (fileOf (l .loop .db) (l .loop .n)) in
-    rw (c .next-place .ensures, p .lay-page .ensures, p .before .read-page .ensures, p .before .before .before .image .ensures .bytes) (m .within, p .lay-page .kept .0 ∙ l .loop .inv .1, k ∙ l .loop .inv .2)
+    laid-turn 4096 (a .log .now) (a .end) (l .loop .at) u (omega arith) (lit< tt) (r .read-record .result) (r .read-record .ensures)
+    (fileOf (l .loop .db) (l .loop .n)) in
+    rw (c .next-place .ensures, p .lay-page .ensures, p .before .read-page .ensures, b)
+    (m .within, p .lay-page .kept .0 ∙ l .loop .inv .1, k ∙ l .loop .inv .2)
 
 same-length : tie.Need-same-length Inv-loop μ-loop
 same-length c = search needs

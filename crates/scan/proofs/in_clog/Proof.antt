@@ -29,7 +29,8 @@ returns : tie.Need-returns
 unfolding clogMagic validClog
 returns c =
     let a = c .before .before .before .before .before .before .args in
-    rw (c .empty .ensures) (in-none (fileOf (a .clog .now) (a .len)) (sym (c .before .before .begins .ensures) ∙ not-true (c .before .before .begins .result) (c .before .if1 .taken)))
+    let b = c .before .before .begins in
+    rw (c .empty .ensures) (in-none (fileOf (a .clog .now) (a .len)) (sym (b .ensures) ∙ not-true (b .result) (c .before .if1 .taken)))
 
 read-requires : tie.Need-read-requires
 read-requires c κs = search needs
@@ -44,7 +45,8 @@ returns-2 c =
     let s = b .before .before .before .before in
     let a = s .args in
     let l = c .before .before .read in
-    in-read (fileOf (a .clog .now) (a .len)) (s .pre) (sym (b .begins .ensures) ∙ not-false (b .begins .result) (c .before .before .before .if1 .left)) (l .result) (c .number-of .result) (l .ensures) (c .number-of .ensures)
+    let v = sym (b .begins .ensures) ∙ not-false (b .begins .result) (c .before .before .before .if1 .left) in
+    in-read (fileOf (a .clog .now) (a .len)) (s .pre) v (l .result) (c .number-of .result) (l .ensures) (c .number-of .ensures)
 
 pub in-clog-spec : {M : Type 1} → statement M
 in-clog-spec =

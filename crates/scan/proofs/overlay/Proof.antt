@@ -38,7 +38,8 @@ returns-3 c =
     let g = s .before .before in
     let e = g .before .before in
     let a = e .before .before .args in
-    c .refused3 .ensures ∙ over-both 256 (a .held) (a .old) (e .if1 .left) (g .if2 .left) (s .settle .result) (s .settle .ensures) (o .overlay .result) (o .overlay .ensures) (c .before .if3 .taken)
+    c .refused3 .ensures
+    ∙ over-both 256 (a .held) (a .old) (e .if1 .left) (g .if2 .left) (s .settle .result) (s .settle .ensures) (o .overlay .result) (o .overlay .ensures) (c .before .if3 .taken)
 
 returns-4 : tie.Need-returns-4
 returns-4 c =
@@ -47,7 +48,8 @@ returns-4 c =
     let g = s .before .before in
     let e = g .before .before in
     let a = e .before .before .args in
-    over-fits 256 (a .held) (a .old) (e .if1 .left) (g .if2 .left) (s .settle .result) (s .settle .ensures) (o .overlay .result) (o .overlay .ensures) (c .before .if3 .left)
+    over-fits 256 (a .held) (a .old) (e .if1 .left) (g .if2 .left) (s .settle .result) (s .settle .ensures)
+    (o .overlay .result) (o .overlay .ensures) (c .before .if3 .left)
 
 pub overlay-spec : {M : Type 1} → statement M
 overlay-spec =

@@ -53,8 +53,9 @@ returns-3 c =
     let a = b .before .before .before .before .before .args in
     let f = filesOf (a .lens) (a .log .now) (a .db .now) (a .clog .now) in
     let k = sym (b .buffers-bad .ensures) ∙ m .before .if1 .left in
+    let z = sym (m .format-no .ensures) ∙ s .before .if2 .left in
     c .refused3 .ensures
-    ∙ survey-room 4096 f (a .frames .now) k (sym (m .format-no .ensures) ∙ s .before .if2 .left) (s .scan .result) (s .scan .ensures) (r .room-no .result) (r .room-no .ensures) (c .before .if3 .taken)
+    ∙ survey-room 4096 f (a .frames .now) k z (s .scan .result) (s .scan .ensures) (r .room-no .result) (r .room-no .ensures) (c .before .if3 .taken)
 
 in-clog-requires : tie.Need-in-clog-requires
 in-clog-requires c κs =
@@ -100,7 +101,8 @@ returns-5 c =
     let z = sym (m .format-no .ensures) ∙ s .before .if2 .left in
     let y = sym (r .room-no .ensures) ∙ i .before .before .if3 .left in
     let g = o .overlay .ensures ∙ ap (together 256 (s .scan .result .held)) (i .in-clog .ensures) in
-    c .refused4 .ensures ∙ survey-ending 4096 f (a .frames .now) k z (s .scan .result) (s .scan .ensures) y (o .overlay .result) g (c .before .before .if4 .left) (c .before .if5 .taken)
+    c .refused4 .ensures
+    ∙ survey-ending 4096 f (a .frames .now) k z (s .scan .result) (s .scan .ensures) y (o .overlay .result) g (c .before .before .if4 .left) (c .before .if5 .taken)
 
 returns-6 : tie.Need-returns-6
 returns-6 c =
