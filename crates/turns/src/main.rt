@@ -1,6 +1,5 @@
 // Runs calls on a store that holds nothing yet, and writes of each its number and the lengths of the files after it; of a commit and of a mark also how many
 // stores there will be, and of a commit what each of them is. The last calls read the page with the greatest number and ask for one more.
-use ready::Counted;
 use fields::Answer;
 use fields::CommitTime;
 use fields::TransactionId;
@@ -8,6 +7,7 @@ use form::Changed;
 use form::Held;
 use form::Store;
 use libc::STDOUT_FILENO;
+use ready::Counted;
 use stores::Telling;
 use world::Lens;
 use world::Slot;
