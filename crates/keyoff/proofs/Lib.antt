@@ -4,3 +4,4 @@ pub mod Typed
 pub mod Words
 pub mod Invariant
 pub mod Start
+pub mod Reopen
