@@ -5,3 +5,4 @@ pub mod Words
 pub mod Invariant
 pub mod Start
 pub mod Reopen
+pub mod Steps

@@ -6,8 +6,6 @@ use Prim.Native.Nat.{ℕ, zero, suc, _+_, _/_, _^_, _≤_, _<_}
 use native.Mathlib.Omega.{arith}
 use lib.Dec.{eqb}
 use lib.ListN.{length}
-use borrow.Author.Tests.{eq-eqb}
-use Rattle.sorted.specs.Sorted.{lookBy}
 use Rattle.fields.specs.Files.{File, content, room, header}
 use Rattle.fields.proofs.FileLaws.{header-room}
 use Rattle.wal.specs.Records.{logMagic}
@@ -33,7 +31,7 @@ use Rattle.keyoff.specs.KeyOff.{OpenedWithMeta, BytesIn, kept}
 use Rattle.keyoff.proofs.Images.{agrees-none}
 use Rattle.keyoff.proofs.Page.{Stands}
 use Rattle.keyoff.proofs.Typed.{stored-small}
-use Rattle.keyoff.proofs.Words.{not-both, Seen, there, gone, seen, word-none, cut-reads, cut-records}
+use Rattle.keyoff.proofs.Words.{not-both, Seen, there, gone, seen, own-word, word-none, cut-reads, cut-records}
 use Rattle.keyoff.proofs.Invariant.{Marks, Inv, Kept}
 
 -- what a status becomes in the clog and back
@@ -76,15 +74,11 @@ module _ (P : ℕ) (f : Files) (frames : List ℕ) (ok : openNo P f frames ≡ 0
           absurd (not-both _ (kept-there s .0) n (agrees k ∙ rw h (kept-there s .1)))
 
   -- and without a record in the log it is the clog that was opened
-  own : (e : Entry) (es : List Entry) → statusOf (idOf e) (e ∷ es) ≡ Is (e .status)
-  unfolding statusOf lookBy
-  own e es = rw (eq-eqb (idOf e) (idOf e) refl)
-
   left-valid : validClog (withMeta P f frames .files .clog) ≡ true
   left-valid = go (logTable P (f .log)) refl
     where
       go : (l : List Entry) → logTable P (f .log) ≡ l → validClog (withMeta P f frames .files .clog) ≡ true
-      go (e ∷ es) q = held-valid (idOf e) (e .status) (full-word P f (idOf e) ∙ rw (q, own e es))
+      go (e ∷ es) q = held-valid (idOf e) (e .status) (full-word P f (idOf e) ∙ rw (q, own-word e es))
       go [] q =
           let c : withMeta P f frames .files .clog ≡ settled 8 (openClog (f .clog)) = unfold withMeta recordAll in rw q in
           let n : 8 ≤ settled 8 (openClog (f .clog)) .len = subst (λ (g : File). 8 ≤ g .len) c (form .clog-magic) in

@@ -5,6 +5,7 @@ use mathlib.Core.Bool.{Bool, true, false, _||_}
 use Prim.Native.Nat.{ℕ, _+_, _≤_, _<_, max}
 use native.Mathlib.Omega.{arith}
 use lib.ListN.{length, length-append}
+use borrow.Author.Tests.{eq-eqb}
 use Rattle.sorted.specs.Sorted.{Hit, miss, hit, lookBy}
 use Rattle.sorted.proofs.Order.{look-in, look-key}
 use Rattle.fields.specs.Files.{File, content, room, append, header}
@@ -60,6 +61,11 @@ missed k l h = go (lookBy idOf k l) h
 unlooked : (k : ℕ) (l : List Entry) → lookBy idOf k l ≡ miss → statusOf k l ≡ Absent
 unfolding statusOf
 unlooked k l h = rw h
+
+-- the first entry's own
+pub own-word : (e : Entry) (l : List Entry) → statusOf (idOf e) (e ∷ l) ≡ Is (e .status)
+unfolding statusOf lookBy
+own-word e l = rw (eq-eqb (idOf e) (idOf e) refl)
 
 -- a table whose ids all stand in another is no longer
 pub within : (l m : List Entry) → ascending l ≡ true → ascending m ≡ true → ((k : ℕ) → statusOf k m ≡ Absent → statusOf k l ≡ Absent) → length l ≤ length m
