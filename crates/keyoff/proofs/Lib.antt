@@ -6,3 +6,4 @@ pub mod Invariant
 pub mod Start
 pub mod Reopen
 pub mod Steps
+pub mod Calls

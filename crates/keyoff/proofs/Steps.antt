@@ -11,6 +11,7 @@ use Rattle.fields.specs.declared.TransactionId.{TransactionId}
 use Rattle.fields.specs.declared.CommitTime.{CommitTime}
 use Rattle.fields.specs.Files.{File, content, room, lay, append, header}
 use Rattle.fields.proofs.Tests.{Equal, equal, other, equality, Order, less, most, order}
+use Rattle.fields.proofs.ByteLaws.{length-bytesOf}
 use Rattle.fields.proofs.FileLaws.{content-length, lay-room, lay-len, header-room, header-len}
 use Rattle.wal.specs.Records.{logMagic, Record, image, begin, commit, abort, checkpoint, encode}
 use Rattle.wal.proofs.RecordLaws.{Sound}
@@ -134,6 +135,7 @@ slot-set id s f h l = record {
 -- ---- a record that sets a status: begin, abort
 
 pub record Sign (r : Record) (id : ℕ) (s : Status) : Type 0 where
+  pub size : length (encode r) ≡ 9
   pub notes : noted r ≡ entry id s ∷ []
   pub rests : (P len : ℕ) → Rest P len r
   pub still : (P i b : ℕ) → imaged P r i b ≡ b
@@ -141,7 +143,9 @@ pub record Sign (r : Record) (id : ℕ) (s : Status) : Type 0 where
   pub plain : (u : CommitTime) → s ≡ Committed u → ⊥
 
 pub begin-sign : (id : ℕ) → Sign (begin id) id Active
+unfolding encode
 begin-sign id = record {
+  size = rw (length-bytesOf 8 id);
   notes = refl;
   rests = λ P len. tt;
   still = λ P i b. refl;
@@ -150,7 +154,9 @@ begin-sign id = record {
 }
 
 pub abort-sign : (id : ℕ) → Sign (abort id) id Aborted
+unfolding encode
 abort-sign id = record {
+  size = rw (length-bytesOf 8 id);
   notes = refl;
   rests = λ P len. tt;
   still = λ P i b. refl;
@@ -161,7 +167,10 @@ abort-sign id = record {
 module _ (P : ℕ) (big : 36 ≤ P) (f : Files) (frames : ℕ) (table : List Entry) (mark : ℕ) (v : Inv P f frames table mark) where
   -- ---- a status logged, and recorded in clog and table
 
-  module _ (r : Record) (id : ℕ) (s : Status) (g : Sign r id s) (has : 8 + id / 4 < room (f .clog)) (space : f .log .len + length (encode r) ≤ room (f .log)) where
+  module _ (r : Record) (id : ℕ) (s : Status) (g : Sign r id s) (has : 8 + id / 4 < room (f .clog)) (fit : f .log .len + 9 ≤ room (f .log)) where
+    space : f .log .len + length (encode r) ≤ room (f .log)
+    space = rw (g .size) fit
+
     sound : Sound P r
     sound = g .sound P (omega (arith, v .clog-size))
 
@@ -191,7 +200,7 @@ module _ (P : ℕ) (big : 36 ≤ P) (f : Files) (frames : ℕ) (table : List Ent
         let lr = lay-room (f .log) (f .log .len) (encode r) in
         let ll = lay-len (f .log) (f .log .len) (encode r) in
         let c : SlotSet (f .clog) (setSlot 8 id (codeOf s) (f .clog)) = slot-set id s (f .clog) (v .clog-len) has in
-        let fit : anyOf (pastClog (room (f .clog)) (entry id s) ∷ []) ≡ false = unfold anyOf in rw (lt-leb _ _ has) in
+        let within : anyOf (pastClog (room (f .clog)) (entry id s) ∷ []) ≡ false = unfold anyOf in rw (lt-leb _ _ has) in
         record {
           log-size = omega (arith, v .log-size, lr);
           log-len = omega (arith, v .log-len, lr, ll);
@@ -206,7 +215,7 @@ module _ (P : ℕ) (big : 36 ≤ P) (f : Files) (frames : ℕ) (table : List Ent
               imaged-more P (records P (f .log)) r i (getD (content (f .db)) i 0)
               ∙ g .still P i (imagedAll P (records P (f .log)) i (getD (content (f .db)) i 0))
               ∙ v .agrees i);
-          ids = rw (now-records, statuses-more, g .notes, map-append, c .size) (none-more _ _ (v .ids) fit);
+          ids = rw (now-records, statuses-more, g .notes, map-append, c .size) (none-more _ _ (v .ids) within);
           valid = c .valid (v .valid);
           marks =
               rw (c .size)
