@@ -1,8 +1,8 @@
 -- Each call keeps the invariant, over its list of stores; so does a run of calls. P is the page size. Assumes nothing.
-use mathlib.Core.Path.{_≡_, refl, sym, ap, _∙_, subst}
+use mathlib.Core.Path.{_≡_, refl, ap, _∙_}
 use mathlib.Core.List.{List, [], _∷_}
-use mathlib.Core.Bool.{Bool, true, false, cond}
-use Prim.Native.Nat.{ℕ, zero, suc, _+_, _*_, _/_, _^_, _≤_, _<_, max}
+use mathlib.Core.Bool.{Bool, true, false}
+use Prim.Native.Nat.{ℕ, zero, suc, _+_, _^_, _≤_, _<_, max}
 use native.Mathlib.Omega.{arith}
 use lib.Dec.{lit<}
 use lib.ListN.{length}
@@ -10,24 +10,24 @@ use borrow.Author.Tests.{leb-false}
 use Rattle.fields.specs.declared.TransactionId.{TransactionId}
 use Rattle.fields.specs.Files.{room}
 use Rattle.fields.proofs.Tests.{Order, less, most, order, passed}
-use Rattle.wal.specs.Records.{image, begin, commit, abort, checkpoint}
+use Rattle.wal.specs.Records.{begin, commit, abort, checkpoint}
 use Rattle.wal.proofs.WriteLaws.{page-size}
 use Rattle.table.specs.declared.Status.the-variants.{Active, Committed, Aborted}
 use Rattle.table.specs.declared.Entry.{Entry}
 use Rattle.table.specs.Entries.{insertEntry}
-use Rattle.clog.specs.Slots.{codeOf, setSlot}
+use Rattle.clog.specs.Slots.{setSlot}
 use Rattle.frames.specs.Pages.{isIn, badPage}
 use Rattle.world.specs.declared.Slot.{Slot}
 use Rattle.world.specs.declared.Slot.the-variants.{Installed, Empty}
 use Rattle.world.specs.World.{Files, Mem, World}
-use Rattle.world.specs.Steps.{Step, Log, Page, SetSlot, Compact, Truncate, apply, applyAll, sumOf, mostOf, logBytes, dbEnd}
+use Rattle.world.specs.Steps.{Step, Log, SetSlot, Truncate, apply, applyAll, mostOf, dbEnd}
 use Rattle.world.specs.Calls.{Call, Install, Uninstall, AllocId, AllocPage, Begin, Read, Write, Flush, Commit, Rollback, Advance, heldPage, held, dataPages, committed, rolledBack, advanced, metaStep, images, writes, backSteps, steps, keeps}
 use Rattle.world.specs.Refusals.{orElse, frontNo, argumentNo, callNo, refuses}
 use Rattle.world.specs.Run.{done, decided, call, run}
 use Rattle.world.proofs.RoomLaws.{heldPage-length, rollback-log-none, apply-room-log, apply-room-db, all-room-log, all-room-db, images-db-same, images-clog-same, writes-clog-same, writes-db-len}
 use Rattle.world.proofs.FrameLaws.{seat-mem, seat-frames-size, write-mem, write-frames-size}
 use Rattle.world.proofs.CallLaws as laws
-use Rattle.world.proofs.CallLaws.{Fits, call-good}
+use Rattle.world.proofs.CallLaws.{call-good}
 use Rattle.keyoff.specs.KeyOff.{ZeroFlush, NoZeroFlush, Typed, AllTyped}
 use Rattle.keyoff.proofs.Invariant.{Inv, Kept}
 use Rattle.keyoff.proofs.Steps.{begin-sign, abort-sign, inv-signed, inv-page, inv-again, inv-advance, inv-fresh}

@@ -7,3 +7,5 @@ pub mod Start
 pub mod Reopen
 pub mod Steps
 pub mod Calls
+pub mod Theorem
+pub mod Returned

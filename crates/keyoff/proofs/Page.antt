@@ -1,11 +1,11 @@
 -- Laws of page 0: a meta page that fits, over the first page of a database. P is the page size. Assumes nothing.
-use mathlib.Core.Path.{_≡_, refl, sym, ap, _∙_}
+use mathlib.Core.Path.{_≡_, sym, _∙_}
 use mathlib.Core.List.{List}
 use mathlib.Core.Bool.{true}
 use Prim.Native.Nat.{ℕ, _+_, _-_, _*_, _^_, _≤_, _<_}
 use native.Mathlib.Nat.{zero-mul}
 use native.Mathlib.Omega.{arith}
-use lib.ListN.{length, take, getD}
+use lib.ListN.{length, take}
 use lib.Seq.{getD-take, ext-getD, length-take-le, take-all}
 use Rattle.fields.specs.Files.{File, content, room, lay}
 use Rattle.fields.proofs.FileLaws.{content-length, lay-room, lay-len, lay-in, lay-before}

@@ -1,8 +1,8 @@
 -- Files that meet the invariant are opened, and the opening finds what the table holds. P is the page size. Assumes nothing.
-use mathlib.Core.Path.{_≡_, refl, sym, ap, _∙_, subst}
-use mathlib.Core.List.{List, [], _∷_}
-use mathlib.Core.Bool.{Bool, true, false}
-use Prim.Native.Nat.{ℕ, _+_, _/_, _≤_, _<_}
+use mathlib.Core.Path.{_≡_, refl, ap, _∙_}
+use mathlib.Core.List.{List}
+use mathlib.Core.Bool.{true, false}
+use Prim.Native.Nat.{ℕ, _≤_, _<_}
 use native.Mathlib.Omega.{arith}
 use lib.Dec.{lit<}
 use lib.ListN.{length, length-take}
@@ -19,7 +19,7 @@ use Rattle.table.specs.declared.Known.the-variants.{Is, Absent}
 use Rattle.table.specs.Entries.{statusOf, orKnown, settledKnown, largestId}
 use Rattle.clog.specs.Slots.{slotOf}
 use Rattle.clog.proofs.TableLaws.{knownAs, valid-long}
-use Rattle.meta.specs.Page.{hasMeta, storedMark, formatNo}
+use Rattle.meta.specs.Page.{hasMeta, formatNo}
 use Rattle.meta.proofs.Laws.{format-good}
 use Rattle.world.specs.World.{Files, World}
 use Rattle.world.specs.Refusals.{anyOf, badBuffers}

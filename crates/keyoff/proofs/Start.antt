@@ -1,20 +1,17 @@
 -- A store that was opened with a meta page of version 0 or 2 meets the invariant. P is the page size. Assumes nothing.
 use mathlib.Core.Path.{_≡_, refl, sym, ap, _∙_, subst}
 use mathlib.Core.List.{List, [], _∷_}
-use mathlib.Core.Bool.{Bool, true, false, cond}
-use Prim.Native.Nat.{ℕ, zero, suc, _+_, _/_, _^_, _≤_, _<_}
+use mathlib.Core.Bool.{Bool, true, false}
+use Prim.Native.Nat.{ℕ, _+_, _/_, _^_, _≤_, _<_}
 use native.Mathlib.Omega.{arith}
-use lib.Dec.{eqb}
 use lib.ListN.{length}
-use Rattle.fields.specs.Files.{File, content, room, header}
-use Rattle.fields.proofs.FileLaws.{header-room}
-use Rattle.wal.specs.Records.{logMagic}
+use Rattle.fields.specs.Files.{File, content, room}
 use Rattle.table.specs.declared.Status.{Status}
 use Rattle.table.specs.declared.Status.the-variants.{Active, Committed, Aborted}
 use Rattle.table.specs.declared.Entry.{Entry}
 use Rattle.table.specs.declared.Known.{Known}
 use Rattle.table.specs.declared.Known.the-variants.{Is, Absent}
-use Rattle.table.specs.Entries.{idOf, statusOf, orKnown}
+use Rattle.table.specs.Entries.{idOf, statusOf}
 use Rattle.clog.specs.Slots.{codeOf, slotOf, validClog, openClog, recordAll, settled}
 use Rattle.clog.proofs.SlotLaws.{slot-within, settled-room, settled-len, settled-header}
 use Rattle.clog.proofs.TableLaws.{knownAs, known-active, known-committed, known-aborted, valid-same, open-valid}
@@ -22,7 +19,7 @@ use Rattle.meta.specs.Page.{hasMeta, storedMark}
 use Rattle.world.specs.World.{Files, World}
 use Rattle.world.specs.Refusals.{anyOf}
 use Rattle.world.proofs.FormLaws.{InForm}
-use Rattle.opening.specs.Opening.{records, replayed, statuses, logTable, clogTable, fullTable, openNo, withMeta, openedWorld, Opening, opening}
+use Rattle.opening.specs.Opening.{records, replayed, statuses, logTable, clogTable, fullTable, openNo, withMeta, Opening, opening}
 use Rattle.opening.proofs.Laws.{world-meta, accepted}
 use Rattle.opening.proofs.Tables.{lastWord, clog-none, clog-word, full-word, nothing}
 use Rattle.opening.proofs.Formed as formed
@@ -31,8 +28,8 @@ use Rattle.keyoff.specs.KeyOff.{OpenedWithMeta, BytesIn, kept}
 use Rattle.keyoff.proofs.Images.{agrees-none}
 use Rattle.keyoff.proofs.Page.{Stands}
 use Rattle.keyoff.proofs.Typed.{stored-small}
-use Rattle.keyoff.proofs.Words.{not-both, Seen, there, gone, seen, own-word, word-none, cut-reads, cut-records}
-use Rattle.keyoff.proofs.Invariant.{Marks, Inv, Kept}
+use Rattle.keyoff.proofs.Words.{not-both, own-word, word-none, cut-reads, cut-records}
+use Rattle.keyoff.proofs.Invariant.{Inv, Kept}
 
 -- what a status becomes in the clog and back
 pub kept-code : (s : Status) → knownAs (codeOf s) ≡ kept (Is s)

@@ -1,19 +1,18 @@
 -- The kinds of stores that keep the invariant: a status logged and recorded, a page logged and written, meta written, the log cut back with a status recorded,
 -- the clog compacted. P is the page size. Assumes nothing.
 use mathlib.Core.Path.{_≡_, refl, sym, ap, _∙_, subst}
-use mathlib.Core.List.{List, [], _∷_, _++_, map, map-append, append-nil}
-use mathlib.Core.Bool.{Bool, true, false, _||_}
-use Prim.Native.Nat.{ℕ, _+_, _*_, _/_, _^_, _≤_, _<_, max}
+use mathlib.Core.List.{List, [], _∷_, _++_, map-append, append-nil}
+use mathlib.Core.Bool.{true, false}
+use Prim.Native.Nat.{ℕ, _+_, _*_, _/_, _^_, _≤_, _<_}
 use native.Mathlib.Omega.{arith}
 use lib.ListN.{length, take, getD}
 use borrow.Author.Tests.{lt-leb}
-use Rattle.fields.specs.declared.TransactionId.{TransactionId}
 use Rattle.fields.specs.declared.CommitTime.{CommitTime}
 use Rattle.fields.specs.Files.{File, content, room, lay, append, header}
 use Rattle.fields.proofs.Tests.{Equal, equal, other, equality, Order, less, most, order}
 use Rattle.fields.proofs.ByteLaws.{length-bytesOf}
 use Rattle.fields.proofs.FileLaws.{content-length, lay-room, lay-len, header-room, header-len}
-use Rattle.wal.specs.Records.{logMagic, Record, image, begin, commit, abort, checkpoint, encode}
+use Rattle.wal.specs.Records.{logMagic, Record, image, begin, abort, encode}
 use Rattle.wal.proofs.RecordLaws.{Sound}
 use Rattle.table.specs.declared.Status.{Status}
 use Rattle.table.specs.declared.Status.the-variants.{Active, Committed, Aborted}
@@ -24,7 +23,7 @@ use Rattle.table.specs.Entries.{insertEntry, statusOf, orKnown}
 use Rattle.table.proofs.Facts.{set-ascending, status-set, status-kept}
 use Rattle.clog.specs.Slots.{codeOf, slotOf, validClog, setSlot, clearSlots}
 use Rattle.clog.proofs.FourSlots.{code-small}
-use Rattle.clog.proofs.SlotLaws.{record-room, record-len, record-fit, record-header, record-same, record-other, compact-room, compact-len, compact-low, compact-high, compact-header}
+use Rattle.clog.proofs.SlotLaws.{record-room, record-fit, record-header, record-same, record-other, compact-room, compact-len, compact-low, compact-high, compact-header}
 use Rattle.clog.proofs.TableLaws.{knownAs, valid-long, valid-same}
 use Rattle.meta.specs.Page.{metaPage}
 use Rattle.meta.proofs.Laws.{has-long, length-meta}
@@ -34,9 +33,9 @@ use Rattle.world.specs.Steps.{Log, Page, SetSlot, Compact, Truncate, apply}
 use Rattle.opening.specs.Opening.{records, noted, statuses, pastClog}
 use Rattle.opening.proofs.Tables.{lastWord, nothing, other-word}
 use Rattle.keyoff.specs.KeyOff.{kept}
-use Rattle.keyoff.proofs.Images.{imaged, imagedAll, imaged-more, Rest, AllRest, all-longer, all-more, Agrees, agrees-none, agrees-page, agrees-zero}
-use Rattle.keyoff.proofs.Page.{Stands, stands-same, stands-new, first-written, first-kept}
-use Rattle.keyoff.proofs.Words.{not-both, own-word, none-more, statuses-more, word-more, word-none, Reads, reads-long, cut-reads, cut-records, more-reads, more-records}
+use Rattle.keyoff.proofs.Images.{imaged, imagedAll, imaged-more, Rest, all-longer, all-more, agrees-none, agrees-page, agrees-zero}
+use Rattle.keyoff.proofs.Page.{stands-same, stands-new, first-written, first-kept}
+use Rattle.keyoff.proofs.Words.{not-both, own-word, none-more, statuses-more, word-more, word-none, reads-long, cut-reads, cut-records, more-reads, more-records}
 use Rattle.keyoff.proofs.Invariant.{Marks, Inv}
 use Rattle.keyoff.proofs.Start.{kept-code}
 

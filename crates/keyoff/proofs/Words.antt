@@ -1,8 +1,8 @@
 -- Laws of logs and tables, one record and one id at a time. P is the page size. Assumes nothing.
-use mathlib.Core.Path.{_≡_, refl, sym, ap, _∙_, subst}
-use mathlib.Core.List.{List, [], _∷_, _++_, map, append-nil, append-assoc, List·Memᴰ, List·Memᴰ·head, List·Memᴰ·tail}
-use mathlib.Core.Bool.{Bool, true, false, _||_}
-use Prim.Native.Nat.{ℕ, _+_, _≤_, _<_, max}
+use mathlib.Core.Path.{_≡_, refl, sym, ap, _∙_}
+use mathlib.Core.List.{List, [], _∷_, _++_, append-nil, append-assoc, List·Memᴰ, List·Memᴰ·head, List·Memᴰ·tail}
+use mathlib.Core.Bool.{Bool, true, false}
+use Prim.Native.Nat.{ℕ, _+_, _≤_, _<_}
 use native.Mathlib.Omega.{arith}
 use lib.ListN.{length, length-append}
 use borrow.Author.Tests.{eq-eqb}
@@ -10,7 +10,7 @@ use Rattle.sorted.specs.Sorted.{Hit, miss, hit, lookBy}
 use Rattle.sorted.proofs.Order.{look-in, look-key}
 use Rattle.fields.specs.Files.{File, content, room, append, header}
 use Rattle.fields.proofs.FileLaws.{append-content, header-content}
-use Rattle.wal.specs.Records.{logMagic, Record, image, begin, commit, abort, checkpoint, encode, Placed, clean, Parsed, recordsIn, logOf}
+use Rattle.wal.specs.Records.{logMagic, Record, encode, Placed, clean, recordsIn, logOf}
 use Rattle.wal.proofs.RecordLaws.{Sound}
 use Rattle.wal.proofs.ParseLaws.{parse-none, log-magic, log-more}
 use Rattle.table.specs.declared.Status.{Status}
@@ -22,7 +22,7 @@ use Rattle.table.proofs.Facts.{status-member, id-bound}
 use Rattle.frames.proofs.Lists.{neither}
 use Rattle.world.specs.Refusals.{anyOf}
 use Rattle.opening.specs.Opening.{records, noted, statuses}
-use Rattle.opening.proofs.Tables.{lastWord, nothing}
+use Rattle.opening.proofs.Tables.{lastWord}
 use Rattle.opening.proofs.Covers.{covers-less}
 
 -- ---- a known status
