@@ -9,3 +9,4 @@ pub mod Steps
 pub mod Calls
 pub mod Theorem
 pub mod Returned
+pub mod Vectors

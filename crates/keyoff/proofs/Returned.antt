@@ -1,6 +1,6 @@
 -- The same of what the functions return: `opened` is what opening a store must give, `Ran` a chain of calls, each given the store and the buffers that the one
 -- before left. P is the page size. Assumes nothing.
-use mathlib.Core.Path.{_≡_, refl, sym, ap, _∙_, subst}
+use mathlib.Core.Path.{_≡_, sym, ap, _∙_, subst}
 use mathlib.Core.List.{List}
 use Prim.Native.Nat.{ℕ, _≤_}
 use Rattle.fields.specs.Files.{File}
