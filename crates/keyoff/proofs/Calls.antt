@@ -88,7 +88,8 @@ module _ (P : ℕ) (big : 36 ≤ P) (w : World) (v : Kept P w) where
       by-slot : (s : Slot) → w .mem .slot ≡ s → Kept P (done P (Flush p) w)
       by-slot (Installed id) inside =
           let m = laws.flush-mem-in P p w id inside in
-          quiet (Flush p) (laws.flush-steps-in P p w id inside) (ap length (laws.flush-frames-in P p w id inside)) (ap (λ (u : Mem). u .table) m) (ap (λ (u : Mem). u .mark) m)
+          quiet (Flush p) (laws.flush-steps-in P p w id inside) (ap length (laws.flush-frames-in P p w id inside))
+          (ap (λ (u : Mem). u .table) m) (ap (λ (u : Mem). u .mark) m)
       by-slot Empty out = outside out (isIn p (w .mem .resident)) refl
 
   -- ---- commit, and rollback with data pages: stores before the log is cut back. Each keeps the size of the buffers
@@ -159,7 +160,8 @@ module _ (P : ℕ) (big : 36 ≤ P) (w : World) (v : Kept P w) where
 
     -- what both ways leave of memory and frames
     back-left : w .mem .slot ≡ Installed id → (g : Files) → applyAll P (backSteps P list w id) (w .files) ≡ g →
-        Inv P (apply P (metaStep P (rolledBack id (w .mem))) g) (length (w .frames)) (insertEntry (record { id = id; status = Aborted }) (w .mem .table)) (w .mem .mark .0) →
+        Inv P (apply P (metaStep P (rolledBack id (w .mem))) g) (length (w .frames))
+        (insertEntry (record { id = id; status = Aborted }) (w .mem .table)) (w .mem .mark .0) →
         Kept P (done P (Rollback list) w)
     back-left inside g e i =
         let m = laws.rollback-mem P list w id inside in

@@ -29,14 +29,18 @@ pub record StoreReopens (P : ℕ) (u : Outcome) : Type 0 where
   pub length : again P u .store .lens .db ≡ u .store .lens .db
   pub next : NextAbove (memOf (again P u .store))
 
+-- read as a world, the store that an opening hands out is the opened one
+opened-is : (P : ℕ) (lens : Lens) (log db clog frames : List ℕ) → opening P (filesOf lens log db clog) frames .number ≡ 0 →
+    worldIn (opened P lens log db clog frames .outcome) ≡ opening P (filesOf lens log db clog) frames .world
+opened-is P lens log db clog frames h =
+    let n : openNo P (filesOf lens log db clog) frames ≡ 0 = unfold opening in h in
+    opened-world P lens log db clog frames n ∙ sym (ap (λ (o : Opening). o .world) (accepted P (filesOf lens log db clog) frames n))
+
 -- an outcome whose world is opened again is opened again
 from-world : (P : ℕ) (u : Outcome) → Reopens P (worldIn u) → StoreReopens P u
 unfolding worldOf memOf opened
 from-world P u r =
-    let f = filesOf (u .store .lens) (u .log) (u .db) (u .clog) in
-    let n : openNo P (filesOf (u .store .lens) (u .log) (u .db) (u .clog)) (u .frames) ≡ 0 = unfold opening in r .accepted in
-    let e : worldIn (again P u) ≡ reopened P (worldIn u) =
-    opened-world P (u .store .lens) (u .log) (u .db) (u .clog) (u .frames) n ∙ sym (ap (λ (o : Opening). o .world) (accepted P f (u .frames) n)) in
+    let e : worldIn (again P u) ≡ reopened P (worldIn u) = opened-is P (u .store .lens) (u .log) (u .db) (u .clog) (u .frames) (r .accepted) in
     record {
       accepted = r .accepted;
       statuses = λ t h. ap (λ (w : World). statusOf t (w .mem .table)) e ∙ r .statuses t h;
@@ -49,10 +53,7 @@ from-world P u r =
 pub key-off-code : (P : ℕ) → 36 ≤ P → (lens : Lens) (log db clog frames : List ℕ) (cs : List Call) (u : Outcome) →
     BytesIn (filesOf lens log db clog) → AllTyped cs → OpenedWithMeta P (filesOf lens log db clog) frames →
     Ran P (opened P lens log db clog frames .outcome) cs u → NoZeroFlush P cs (worldIn (opened P lens log db clog frames .outcome)) → StoreReopens P u
-key-off-code P big lens log db clog frames cs u bytes typed open-meta ran quiet =
-    let f = filesOf lens log db clog in
-    let n : openNo P (filesOf lens log db clog) frames ≡ 0 = unfold opening in open-meta .accepted in
-    let e : worldIn (opened P lens log db clog frames .outcome) ≡ opening P (filesOf lens log db clog) frames .world =
-    opened-world P lens log db clog frames n ∙ sym (ap (λ (o : Opening). o .world) (accepted P f frames n)) in
-    let r = key-off P big f frames cs bytes typed open-meta (subst (λ (w : World). NoZeroFlush P cs w) e quiet) in
+key-off-code P big lens log db clog frames cs u bytes typed meta ran quiet =
+    let e = opened-is P lens log db clog frames (meta .accepted) in
+    let r = key-off P big (filesOf lens log db clog) frames cs bytes typed meta (subst (λ (w : World). NoZeroFlush P cs w) e quiet) in
     from-world P u (subst (λ (w : World). Reopens P w) (sym (ran-is-run ran ∙ ap (run P cs) e)) r)

@@ -80,8 +80,9 @@ module _ (P : ℕ) (f : Files) (frames : List ℕ) (ok : openNo P f frames ≡ 0
           let c : withMeta P f frames .files .clog ≡ settled 8 (openClog (f .clog)) = unfold withMeta recordAll in rw q in
           let n : 8 ≤ settled 8 (openClog (f .clog)) .len = subst (λ (g : File). 8 ≤ g .len) c (form .clog-magic) in
           let m : settled 8 (openClog (f .clog)) .len ≤ room (settled 8 (openClog (f .clog))) = subst (λ (g : File). g .len ≤ room g) c (form .clog-len) in
-          let a : openClog (f .clog) .len ≤ room (openClog (f .clog)) = omega (arith, settled-len 8 (openClog (f .clog)), settled-room 8 (openClog (f .clog))) in
-          let b : 8 ≤ openClog (f .clog) .len = omega (arith, settled-len 8 (openClog (f .clog))) in
+          let k = settled-len 8 (openClog (f .clog)) in
+          let a : openClog (f .clog) .len ≤ room (openClog (f .clog)) = omega (arith, k, settled-room 8 (openClog (f .clog))) in
+          let b : 8 ≤ openClog (f .clog) .len = omega (arith, k) in
           ap validClog c
           ∙ valid-same (openClog (f .clog)) (settled 8 (openClog (f .clog))) (settled-header 8 (openClog (f .clog)) a b)
           ∙ open-valid (f .clog) (no-means P f frames ok .clog-room)

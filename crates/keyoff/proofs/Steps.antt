@@ -218,7 +218,8 @@ module _ (P : ℕ) (big : 36 ≤ P) (f : Files) (frames : ℕ) (table : List Ent
           valid = c .valid (v .valid);
           marks =
               rw (c .size)
-              (marks-set _ _ _ _ _ _ id s mark (room (f .clog)) has (clog-sets id s (f .clog) (v .clog-len) has) (table-sets id s table) here plain elsewhere (v .marks));
+              (marks-set _ _ _ _ _ _ id s mark (room (f .clog)) has (clog-sets id s (f .clog) (v .clog-len) has) (table-sets id s table)
+              here plain elsewhere (v .marks));
           sorted = set-ascending (entry id s) table (v .sorted);
           few = few;
           page = v .page;
@@ -227,8 +228,8 @@ module _ (P : ℕ) (big : 36 ≤ P) (f : Files) (frames : ℕ) (table : List Ent
 
   -- ---- a page logged and written, not page 0
 
-  module _ (p : ℕ) (bs : List ℕ) (p0 : 0 < p) (p32 : p < 4294967295) (whole : length bs ≡ P) (space : f .log .len + length (encode (image p bs)) ≤ room (f .log))
-      (has : p * P + length bs ≤ room (f .db)) where
+  module _ (p : ℕ) (bs : List ℕ) (p0 : 0 < p) (p32 : p < 4294967295) (whole : length bs ≡ P)
+      (space : f .log .len + length (encode (image p bs)) ≤ room (f .log)) (has : p * P + length bs ≤ room (f .db)) where
     page-records : records P (append (f .log) (encode (image p bs))) ≡ records P (f .log) ++ (image p bs ∷ [])
     page-records = more-records P (f .log) (image p bs) (v .reads) space (omega arith, whole)
 
@@ -320,7 +321,8 @@ module _ (P : ℕ) (big : 36 ≤ P) (f : Files) (frames : ℕ) (table : List Ent
   unfolding apply
   inv-advance next time w h w64 d =
       let l = valid-long (f .clog) (v .valid) in
-      inv-meta next time w (clearSlots 8 w (f .clog)) w64 d (compact-room 8 w (f .clog)) (compact-len 8 w (f .clog)) (compact-header 8 w (f .clog) (v .clog-len) l)
+      inv-meta next time w (clearSlots 8 w (f .clog)) w64 d (compact-room 8 w (f .clog)) (compact-len 8 w (f .clog))
+      (compact-header 8 w (f .clog) (v .clog-len) l)
       (marks-cut _ _ _ _ mark w (room (f .clog)) h (λ t q. rw (compact-low 8 w (f .clog) (v .clog-len) l t q))
       (λ t q. ap knownAs (compact-high 8 w (f .clog) (v .clog-len) l t q)) (v .marks))
 

@@ -53,7 +53,8 @@ unfolding recordOf
 good-record tag body b = go (eqb tag 1) (eqb tag 2) (eqb tag 3) (eqb tag 4)
   where
     go : (w x y z : Bool) →
-        Good (cond w (image (leOf (take 4 body)) (drop 4 body)) (cond x (begin (leOf body)) (cond y (commit (leOf (take 8 body)) (leOf (drop 8 body))) (cond z (abort (leOf body)) checkpoint))))
+        Good (cond w (image (leOf (take 4 body)) (drop 4 body)) (cond x (begin (leOf body))
+        (cond y (commit (leOf (take 8 body)) (leOf (drop 8 body))) (cond z (abort (leOf body)) checkpoint))))
     go true x y z = bytes-drop 4 body b
     go false true y z = tt
     go false false true z = tt
@@ -66,7 +67,8 @@ good-front P [] b = tt
 good-front P (tag ∷ rest) b = go (ltb tag 1) (ltb 5 tag) (leb (bodyOf P tag) (length rest))
   where
     go : (x y z : Bool) →
-        GoodFront (cond x unknown (cond y unknown (cond z (one (recordOf tag (take (bodyOf P tag) rest)) (suc (bodyOf P tag))) (torn (bodyOf P tag - length rest)))))
+        GoodFront (cond x unknown (cond y unknown
+        (cond z (one (recordOf tag (take (bodyOf P tag) rest)) (suc (bodyOf P tag))) (torn (bodyOf P tag - length rest)))))
     go true y z = tt
     go false true z = tt
     go false false true = good-record tag (take (bodyOf P tag) rest) (bytes-take (bodyOf P tag) rest (λ i. b (suc i)))
@@ -119,4 +121,6 @@ replay-bytes P (r ∷ rs) f n h b g =
 pub stored-small : (P : ℕ) (f : Files) → anyOf (map (pastDb P (room (f .db))) (records P (f .log))) ≡ false → f .db .len ≤ room (f .db) →
     Bytes (content (f .log)) → Bytes (content (f .db)) → storedMark (content (replayed P f)) < 2 ^ 64
 unfolding replayed
-stored-small P f n h l d = field-small 24 (content (replay P (records P (f .log)) (f .db))) (replay-bytes P (records P (f .log)) (f .db) n h d (good-log P (content (f .log)) l))
+stored-small P f n h l d =
+    field-small 24 (content (replay P (records P (f .log)) (f .db)))
+    (replay-bytes P (records P (f .log)) (f .db) n h d (good-log P (content (f .log)) l))

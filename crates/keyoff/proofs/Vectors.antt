@@ -117,8 +117,8 @@ runs :
 unfolding story encode bytesOf logMagic clogMagic metaMagic metaPage
 runs = refl
 
--- without a premise: page 0 flushed outside a transaction, so that its bytes have no magic; no meta page, so that the log's entry goes with the log; 36 bytes of
--- a page 0 of version 3, which replay makes a whole page
+-- without a premise: page 0 flushed outside a transaction, so that its bytes have no magic; no meta page, so that the log's entry goes with the log; 36
+-- bytes of a page 0 of version 3, which replay makes a whole page
 without :
     story first (Write 0 [] ∷ Flush 0 ∷ [])
     ∷ story (files (logMagic ++ encode (commit 5 9)) [] []) []

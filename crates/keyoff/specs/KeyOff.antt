@@ -1,6 +1,6 @@
 -- Key-off, key-on: the next opening finds what the store held. P is the page size. The words, and where each of them stands below:
 --
---   the store was opened with a meta page of version 0 or 2 standing after replay    OpenedWithMeta
+--   the store was opened with a meta page of version 0 or 2 standing after replay     OpenedWithMeta
 --   only its own calls touched its buffers since, each was given the store the one before handed back and ran to its end
 --                                                                                     `run` of any list of calls, refused ones too
 --   none flushed page 0 outside a transaction                                         NoZeroFlush
