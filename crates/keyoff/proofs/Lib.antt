@@ -1,0 +1,12 @@
+pub mod Images
+pub mod Page
+pub mod Typed
+pub mod Words
+pub mod Invariant
+pub mod Start
+pub mod Reopen
+pub mod Steps
+pub mod Calls
+pub mod Theorem
+pub mod Returned
+pub mod Vectors
