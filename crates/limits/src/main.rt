@@ -217,6 +217,16 @@ fn commit(s: Store, db: &mut [u8]) -> u8 {
     c.number
 }
 
+// With a list of one page.
+fn rollback(s: Store, listed: u32, db: &mut [u8]) -> u8 {
+    let list = [listed; 1];
+    let mut log = [0u8; 4127];
+    let mut clog = [0u8; 73];
+    let mut frames = [0u8; 8192];
+    let c = settle::rollback(s, &list[..], &mut log, db, &mut clog, &mut frames);
+    c.number
+}
+
 fn advance(s: Store) -> u8 {
     let mut log = [0u8; 4127];
     let mut db = [0u8; 4096];
@@ -349,6 +359,26 @@ fn commit_short(log: usize, id: u64, page: u32) -> u8 {
     commit(s, &mut db)
 }
 
+fn rollback_at(log: usize, id: u64, count: usize, page: u32, listed: u32) -> u8 {
+    let s = crowd(log, id, count, page);
+    let mut db = [0u8; 4096];
+    rollback(s, listed, &mut db)
+}
+
+// On a database buffer that is a byte short of a page.
+fn rollback_short(log: usize, id: u64, page: u32, listed: u32) -> u8 {
+    let s = crowd(log, id, 0, page);
+    let mut db = [0u8; 4095];
+    rollback(s, listed, &mut db)
+}
+
+// Without a transaction.
+fn rollback_alone(listed: u32) -> u8 {
+    let s = fresh(8, 0, 8, 0);
+    let mut db = [0u8; 4096];
+    rollback(s, listed, &mut db)
+}
+
 fn advance_at(a: u32, b: u32, count: usize) -> u8 {
     let s = framed(a, b, count);
     advance(s)
@@ -463,6 +493,35 @@ fn stores_room() {
     );
 }
 
+// 10, in a list too, also where there would be nothing to do; 4, where a rollback of no data page takes 9 bytes of log and one of one page 4,111; 5.
+fn rollbacks() {
+    pair(
+        b"list with 4294967294",
+        rollback_at(8, 5, 0, 0, 4294967294),
+        rollback_at(8, 5, 0, 0, 4294967295),
+    );
+    pair(
+        b"list with 4294967294, no transaction",
+        rollback_alone(4294967294),
+        rollback_alone(4294967295),
+    );
+    pair(
+        b"rollback of no page with log room",
+        rollback_at(4118, 5, 0, 0, 7),
+        rollback_at(4119, 5, 0, 0, 7),
+    );
+    pair(
+        b"rollback of a page with log room",
+        rollback_at(16, 5, 1, 0, 7),
+        rollback_at(17, 5, 1, 0, 7),
+    );
+    pair(
+        b"rollback with database room",
+        rollback_at(8, 5, 0, 0, 7),
+        rollback_short(8, 5, 0, 7),
+    );
+}
+
 // 6, 7, 8.
 fn memory_room() {
     pair(
@@ -520,13 +579,38 @@ fn last_numbers() {
     line(b"commit that meets none", commit_at(4109, 255, 0, 0));
 }
 
+// The order 10, 4, 5, 6, 7, 8.
+fn rollback_numbers() {
+    line(
+        b"rollback that meets 10, 4, 5, 6, 7, 8",
+        rollback_short(4119, 260, 4, 4294967295),
+    );
+    line(
+        b"rollback that meets 4, 5, 6, 7, 8",
+        rollback_short(4119, 260, 4, 7),
+    );
+    line(
+        b"rollback that meets 5, 6, 7, 8",
+        rollback_short(4118, 260, 4, 7),
+    );
+    line(
+        b"rollback that meets 6, 7, 8",
+        rollback_at(4118, 260, 0, 4, 7),
+    );
+    line(b"rollback that meets 7, 8", rollback_at(4118, 259, 0, 4, 7));
+    line(b"rollback that meets 8", rollback_at(4118, 255, 0, 4, 7));
+    line(b"rollback that meets none", rollback_at(4118, 255, 0, 0, 7));
+}
+
 fn main() {
     lengths();
     forms();
     page_lists();
     page_numbers();
     stores_room();
+    rollbacks();
     memory_room();
     first_numbers();
     last_numbers();
+    rollback_numbers();
 }
