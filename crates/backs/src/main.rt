@@ -1,7 +1,6 @@
 // Runs rollbacks on a store whose database is a page of zeros and one byte more, and writes of each call its number and the lengths of the files after it; of a
 // rollback also how many stores there will be, and sums over the files after it. Of the last rollback each store is told, and it is cut at some of them, on copies
 // of the buffers, before it is carried out.
-use fields::Answer;
 use fields::CommitTime;
 use fields::TransactionId;
 use form::Changed;
@@ -40,14 +39,6 @@ fn sum(s: &[u8]) -> u64 {
         i += 1;
     }
     total
-}
-
-// The length that a file has after a call on it alone; 0 where it was refused.
-fn length_of(a: Answer) -> usize {
-    match a {
-        Answer::Accepted(n) => n,
-        Answer::Refused(_) => 0,
-    }
 }
 
 // A store and its four buffers.
@@ -427,8 +418,8 @@ fn start() -> Run {
     let frames = [0xEEu8; 20480];
     fields::zero_fill(&mut db, 0, 4096);
     db[4096] = 7;
-    let m = length_of(wal::truncate(&mut log, 0));
-    let n = length_of(clog::open(&mut clog, 0));
+    let m = fields::length_of(wal::truncate(&mut log, 0));
+    let n = fields::length_of(clog::open(&mut clog, 0));
     let store = fresh(m, 4097, n, 1);
     Run {
         store,

@@ -15,6 +15,11 @@ abbrev pub told : Answer → Told
 told (Accepted len) = record { number = 0; values = len ∷ [] }
 told (Refused number) = record { number = number; values = [] }
 
+-- the length that an accepted answer tells
+abbrev pub lengthOf : Answer → ℕ
+lengthOf (Accepted len) = len
+lengthOf (Refused number) = 0
+
 -- what a call on one file tells, and every byte of its buffer
 pub record Outcome : Type 0 where
   pub told : Told

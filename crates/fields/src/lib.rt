@@ -9,6 +9,7 @@ ghost use lib.ListN.{take, drop, replicate};
 ghost use lib.Seq.{sets};
 ghost use Rattle.fields.specs.Bytes.{leOf, bytesOf, starts};
 ghost use Rattle.fields.specs.Files.{unfit};
+ghost use Rattle.fields.specs.Answers.{lengthOf};
 
 // A transaction's number. It is never accepted as a time.
 pub struct TransactionId(pub u64);
@@ -20,6 +21,16 @@ pub struct CommitTime(pub u64);
 pub enum Answer {
     Accepted(usize),
     Refused(u8),
+}
+
+// The length that an accepted call tells; 0 of a refused one.
+pub fn length_of(a: Answer) -> usize
+    ensures { λ r. ⌜ r ≡ lengthOf a ⌝ }
+{
+    match a {
+        Answer::Accepted(len) => len,
+        Answer::Refused(_) => 0,
+    }
 }
 
 pub fn smaller(a: usize, b: usize) -> usize

@@ -8,7 +8,7 @@ use lib.ListN.{length, take, drop, getD, length-append, length-take, length-repl
 use lib.Seq.{take-at}
 use lib.Dec.{ltb, leb}
 use borrow.Author.Tests.{lt-ltb, le-ltb, le-leb, lt-leb}
-use Rattle.fields.proofs.Tests.{Order, less, most, order}
+use Rattle.fields.proofs.Tests.{Order, less, most, order, or-false}
 use Rattle.sorted.specs.Sorted.{laidOn}
 use Rattle.sorted.proofs.Laws.{laid-own}
 use Rattle.table.specs.declared.Table.{Table}
@@ -23,10 +23,6 @@ use Rattle.form.specs.declared.Store.{Store}
 use Rattle.form.specs.Store.{firstOf, entriesOf, residentOf, touchedOf}
 
 -- ---- tests
-
-pub or-false : (a : Bool) → (a || false) ≡ a
-or-false true = refl
-or-false false = refl
 
 not-both : (a b : Bool) → not (a && not b) ≡ (not a || b)
 not-both true true = refl

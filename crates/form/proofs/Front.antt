@@ -7,7 +7,7 @@ use mathlib.Core.Bool.{true, false, cond, not, _||_}
 use lib.ListN.{length}
 use lib.Dec.{ltb}
 use borrow.Author.Tests.{ltb-false, not-false}
-use Rattle.fields.proofs.Tests.{passed}
+use Rattle.fields.proofs.Tests.{passed, or-false}
 use Rattle.fields.proofs.FileLaws.{fit-means}
 use Rattle.table.specs.declared.Table.{Table}
 use Rattle.table.specs.Entries.{blank, listOf, laid, ascending, wellFormed}
@@ -19,7 +19,7 @@ use Rattle.world.specs.World.{filesOf}
 use Rattle.world.specs.Refusals.{anyOf, badBuffers, badTable, badTouched, badFrames, badStore, frontNo}
 use Rattle.form.specs.declared.Store.{Store}
 use Rattle.form.specs.Store.{entriesOf, residentOf, touchedOf, memOf, worldOf, outOfForm}
-use Rattle.form.proofs.Arrays.{or-false, none-of, length-first, first-fits, first-same, Sized, table-bad, touched-bad, frames-bad, count-most}
+use Rattle.form.proofs.Arrays.{none-of, length-first, first-fits, first-same, Sized, table-bad, touched-bad, frames-bad, count-most}
 
 -- ---- what the code tests
 

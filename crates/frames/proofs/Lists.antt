@@ -11,21 +11,13 @@ use lib.ListN.{length, getD, length-append}
 use lib.Dec.{ltb, eqb}
 use Rattle.sorted.specs.Sorted.{Hit, miss, hit, lookBy, insertBy}
 use Rattle.sorted.proofs.Order.{ascending-tail, look-below, look-set, look-kept, insert-ascending, insert-grows, insert-by-one, size-new}
-use Rattle.fields.proofs.Tests.{both}
+use Rattle.fields.proofs.Tests.{both, neither, or-false}
 use Rattle.frames.specs.Pages.{isIn, slotOf, distinct, badPage, anyBad, number, ascending, touch, withPage}
 
 -- ---- tests
 
-pub neither : (a b : Bool) → (a || b) ≡ false → (a ≡ false) × (b ≡ false)
-neither true b p = let z : true ≡ false = p in (cc, cc)
-neither false b p = (refl, p)
-
 pub clash : (b : Bool) → b ≡ true → b ≡ false → ⊥
 clash b p q = let z : _≡_ {A = ℕ} 0 1 = cc in omega arith
-
-or-false : (a : Bool) → (a || false) ≡ a
-or-false true = refl
-or-false false = refl
 
 or-true : (a : Bool) → (a || true) ≡ true
 or-true true = refl

@@ -23,12 +23,13 @@ use Rattle.meta.specs.Page.{hasMeta, formatNo}
 use Rattle.meta.proofs.Laws.{format-good}
 use Rattle.world.specs.World.{Files, World}
 use Rattle.world.specs.Refusals.{anyOf, badBuffers}
+use Rattle.opening.proofs.Formed.{absent-not}
 use Rattle.opening.specs.Opening.{records, endNo, replayed, fullTable, openRoomNo, openNo, withMeta, Opening, opening}
 use Rattle.opening.proofs.Laws.{accepted, world-meta}
 use Rattle.opening.proofs.Tables.{lastWord, log-word, clog-word, full-ascending, full-word}
 use Rattle.keyoff.specs.KeyOff.{kept, NextAbove, reopened, Reopens}
 use Rattle.keyoff.proofs.Images.{all-room, replay-same}
-use Rattle.keyoff.proofs.Words.{not-both, Seen, there, gone, seen, within, under-largest, largest-under, reads-long}
+use Rattle.keyoff.proofs.Words.{Seen, there, gone, seen, within, under-largest, largest-under, reads-long}
 use Rattle.keyoff.proofs.Invariant.{Inv, Kept}
 
 -- ---- one id: the log's word l, what the slot loads as, and the status held
@@ -66,7 +67,7 @@ module _ (P : ℕ) (big : 36 ≤ P) (f : Files) (frames : List ℕ) (table : Lis
     where
       go : Seen (statusOf t table) → t < 4194304
       go (there u e) = omega (arith, v .marks .fits t u e, v .clog-size)
-      go (gone e) = absurd (not-both _ s (no-more t e) h)
+      go (gone e) = absurd (absent-not _ s (no-more t e) h)
 
   -- ---- the database
 

@@ -23,12 +23,12 @@ use Rattle.opening.specs.Opening.{records, replayed, statuses, logTable, clogTa
 use Rattle.opening.proofs.Laws.{world-meta, accepted}
 use Rattle.opening.proofs.Tables.{lastWord, clog-none, clog-word, full-word, nothing}
 use Rattle.opening.proofs.Formed as formed
-use Rattle.opening.proofs.Formed.{Passed, no-means, opened-formed, clog-agrees}
+use Rattle.opening.proofs.Formed.{absent-not, left-valid, Passed, no-means, opened-formed, clog-agrees}
 use Rattle.keyoff.specs.KeyOff.{OpenedWithMeta, BytesIn, kept}
 use Rattle.keyoff.proofs.Images.{agrees-none}
 use Rattle.keyoff.proofs.Page.{Stands}
 use Rattle.keyoff.proofs.Typed.{stored-small}
-use Rattle.keyoff.proofs.Words.{not-both, own-word, word-none, cut-reads, cut-records}
+use Rattle.keyoff.proofs.Words.{own-word, word-none, cut-reads, cut-records}
 use Rattle.keyoff.proofs.Invariant.{Inv, Kept}
 
 -- what a status becomes in the clog and back
@@ -49,7 +49,7 @@ kept-there Aborted = (Aborted, refl)
 
 -- a slot that loads as a status is not 0
 slot-there : (c : ℕ) (s : Status) → knownAs c ≡ Is s → c ≡ 0 → ⊥
-slot-there c s h e = not-both (knownAs c) s (rw e) h
+slot-there c s h e = absent-not (knownAs c) s (rw e) h
 
 module _ (P : ℕ) (f : Files) (frames : List ℕ) (ok : openNo P f frames ≡ 0) (has : hasMeta P (content (replayed P f)) ≡ true) where
   form : InForm P (withMeta P f frames)
@@ -60,38 +60,15 @@ module _ (P : ℕ) (f : Files) (frames : List ℕ) (ok : openNo P f frames ≡ 0
   unfolding withMeta
   agrees k = rw (world-meta P f frames has) at (clog-agrees P f frames ok has k) ∙ kept-is (statusOf k (fullTable P f))
 
-  -- an entry that it has makes it a valid one
-  held-valid : (k : ℕ) (s : Status) → statusOf k (fullTable P f) ≡ Is s → validClog (withMeta P f frames .files .clog) ≡ true
-  held-valid k s h = go (validClog (withMeta P f frames .files .clog)) refl
-    where
-      go : (x : Bool) → validClog (withMeta P f frames .files .clog) ≡ x → x ≡ true
-      go true e = refl
-      go false e =
-          let n : statusOf k (clogTable (withMeta P f frames .files .clog)) ≡ Absent = rw (clog-none (withMeta P f frames .files .clog) e) (nothing k) in
-          absurd (not-both _ (kept-there s .0) n (agrees k ∙ rw h (kept-there s .1)))
-
-  -- and without a record in the log it is the clog that was opened
-  left-valid : validClog (withMeta P f frames .files .clog) ≡ true
-  left-valid = go (logTable P (f .log)) refl
-    where
-      go : (l : List Entry) → logTable P (f .log) ≡ l → validClog (withMeta P f frames .files .clog) ≡ true
-      go (e ∷ es) q = held-valid (idOf e) (e .status) (full-word P f (idOf e) ∙ rw (q, own-word e es))
-      go [] q =
-          let c : withMeta P f frames .files .clog ≡ settled 8 (openClog (f .clog)) = unfold withMeta recordAll in rw q in
-          let n : 8 ≤ settled 8 (openClog (f .clog)) .len = subst (λ (g : File). 8 ≤ g .len) c (form .clog-magic) in
-          let m : settled 8 (openClog (f .clog)) .len ≤ room (settled 8 (openClog (f .clog))) = subst (λ (g : File). g .len ≤ room g) c (form .clog-len) in
-          let k = settled-len 8 (openClog (f .clog)) in
-          let a : openClog (f .clog) .len ≤ room (openClog (f .clog)) = omega (arith, k, settled-room 8 (openClog (f .clog))) in
-          let b : 8 ≤ openClog (f .clog) .len = omega (arith, k) in
-          ap validClog c
-          ∙ valid-same (openClog (f .clog)) (settled 8 (openClog (f .clog))) (settled-header 8 (openClog (f .clog)) a b)
-          ∙ open-valid (f .clog) (no-means P f frames ok .clog-room)
+  clog-valid : validClog (withMeta P f frames .files .clog) ≡ true
+  unfolding withMeta
+  clog-valid = left-valid P f frames ok
 
   -- so each slot loads as the table's status
   slots-are : (k : ℕ) → knownAs (slotOf 8 (content (withMeta P f frames .files .clog)) k) ≡ kept (statusOf k (fullTable P f))
   slots-are k =
       let e : statusOf k (clogTable (withMeta P f frames .files .clog)) ≡ knownAs (slotOf 8 (content (withMeta P f frames .files .clog)) k) =
-      clog-word (withMeta P f frames .files .clog) k ∙ rw left-valid in
+      clog-word (withMeta P f frames .files .clog) k ∙ rw clog-valid in
       sym e ∙ agrees k
 
   ids-fit : (k : ℕ) (s : Status) → statusOf k (fullTable P f) ≡ Is s → 8 + k / 4 < room (withMeta P f frames .files .clog)
@@ -106,7 +83,7 @@ module _ (P : ℕ) (f : Files) (frames : List ℕ) (ok : openNo P f frames ≡ 0
   log-left = cut-records P (f .log) (no-means P f frames ok .log-room)
 
   silent : (t : ℕ) (s : Status) → lastWord t (records P (withMeta P f frames .files .log)) ≡ Is s → ⊥
-  silent t s h = not-both _ s (rw log-left (word-none t)) h
+  silent t s h = absent-not _ s (rw log-left (word-none t)) h
 
   module _ (page : Stands P (content (replayed P f)) (storedMark (content (replayed P f)))) (small : storedMark (content (replayed P f)) < 2 ^ 64) where
     pub starts : Inv P (withMeta P f frames .files) (length frames) (fullTable P f) (storedMark (content (replayed P f)))
@@ -124,7 +101,7 @@ module _ (P : ℕ) (f : Files) (frames : List ℕ) (ok : openNo P f frames ≡ 0
           rest = rw log-left tt;
           agrees = rw log-left (agrees-none P (replayed P f));
           ids = rw log-left (unfold statuses anyOf in refl);
-          valid = left-valid;
+          valid = clog-valid;
           marks = record {
             untimed = λ t u h. silent t (Committed u) h;
             logged = λ t s h n. silent t s h;

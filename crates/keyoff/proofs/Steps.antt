@@ -30,12 +30,13 @@ use Rattle.meta.proofs.Laws.{has-long, length-meta}
 use Rattle.world.specs.World.{Files}
 use Rattle.world.specs.Refusals.{anyOf}
 use Rattle.world.specs.Steps.{Log, Page, SetSlot, Compact, Truncate, apply}
+use Rattle.opening.proofs.Formed.{absent-not}
 use Rattle.opening.specs.Opening.{records, noted, statuses, pastClog}
 use Rattle.opening.proofs.Tables.{lastWord, nothing, other-word}
 use Rattle.keyoff.specs.KeyOff.{kept}
 use Rattle.keyoff.proofs.Images.{imaged, imagedAll, imaged-more, Rest, all-longer, all-more, agrees-none, agrees-page, agrees-zero}
 use Rattle.keyoff.proofs.Page.{stands-same, stands-new, first-written, first-kept}
-use Rattle.keyoff.proofs.Words.{not-both, own-word, none-more, statuses-more, word-more, word-none, reads-long, cut-reads, cut-records, more-reads, more-records}
+use Rattle.keyoff.proofs.Words.{own-word, none-more, statuses-more, word-more, word-none, reads-long, cut-reads, cut-records, more-reads, more-records}
 use Rattle.keyoff.proofs.Invariant.{Marks, Inv}
 use Rattle.keyoff.proofs.Start.{kept-code}
 
@@ -58,11 +59,11 @@ module _ (L C T L′ C′ T′ : ℕ → Known) (id : ℕ) (s : Status) (mark si
   untimed t (other n) u h = m .untimed t u (elsewhere t n (Committed u) h)
 
   logged : (t : ℕ) → Equal id t → (u : Status) → L′ t ≡ Is u → T′ t ≡ Absent → ⊥
-  logged t (equal p) u h q = not-both (T′ t) s q (sets-at T T′ id t (Is s) table p)
+  logged t (equal p) u h q = absent-not (T′ t) s q (sets-at T T′ id t (Is s) table p)
   logged t (other n) u h q = m .logged t u (elsewhere t n u h) (sym (table .1 t n) ∙ q)
 
   slotted : (t : ℕ) → Equal id t → T′ t ≡ Absent → C′ t ≡ Absent
-  slotted t (equal p) q = absurd (not-both (T′ t) s q (sets-at T T′ id t (Is s) table p))
+  slotted t (equal p) q = absurd (absent-not (T′ t) s q (sets-at T T′ id t (Is s) table p))
   slotted t (other n) q = clog .1 t n ∙ m .slotted t (sym (table .1 t n) ∙ q)
 
   last : (t : ℕ) → Equal id t → mark ≤ t → (u : Status) → L′ t ≡ Is u → T′ t ≡ Is u
@@ -343,7 +344,7 @@ module _ (P : ℕ) (big : 36 ≤ P) (f : Files) (frames : ℕ) (table : List Ent
       let fit : 0 * P + length (metaPage P next time mark) ≤ room (g .db) = omega arith in
       let c : SlotSet (f .clog) (g .clog) = rw gc (slot-set id s (f .clog) (v .clog-len) has) in
       let none : records P (header logMagic (g .log)) ≡ [] = cut-records P (g .log) l8 in
-      let silent : (t : ℕ) (u : Status) → lastWord t (records P (header logMagic (g .log))) ≡ Is u → ⊥ = λ t u h. not-both _ u (rw none (word-none t)) h in
+      let silent : (t : ℕ) (u : Status) → lastWord t (records P (header logMagic (g .log))) ≡ Is u → ⊥ = λ t u h. absent-not _ u (rw none (word-none t)) h in
       record {
         log-size = omega (arith, v .log-size, hr);
         log-len = omega (arith, hr, hl);

@@ -8,6 +8,7 @@ use native.Mathlib.Omega.{arith}
 use lib.Dec.{ltb, leb, eqb, lit<}
 use lib.ListN.{length, take, drop, length-take}
 use borrow.Author.Tests.{ltb-false}
+use Rattle.fields.proofs.Tests.{neither}
 use Rattle.fields.specs.Bytes.{leOf, Bytes}
 use Rattle.fields.specs.Files.{File, content, room, lay}
 use Rattle.fields.proofs.ByteLaws.{bytes-take, bytes-drop, leOf-lt}
@@ -15,7 +16,6 @@ use Rattle.fields.proofs.FileLaws.{lay-room, lay-len, lay-bytes}
 use Rattle.wal.specs.Records.{Record, image, begin, commit, abort, checkpoint, bodyOf, recordOf, Front, ended, torn, unknown, one, decode, Parsed, after, parseN, parse, recordsIn, startOf, logOf}
 use Rattle.meta.specs.Page.{field, storedMark}
 use Rattle.frames.specs.Pages.{badPage}
-use Rattle.frames.proofs.Lists.{neither}
 use Rattle.world.specs.World.{Files}
 use Rattle.world.specs.Refusals.{anyOf}
 use Rattle.opening.specs.Opening.{records, laidBy, replay, replayed, pastDb}

@@ -6,6 +6,7 @@ use Prim.Native.Nat.{ℕ, _+_, _≤_, _<_}
 use native.Mathlib.Omega.{arith}
 use lib.ListN.{length, length-append}
 use borrow.Author.Tests.{eq-eqb}
+use Rattle.fields.proofs.Tests.{neither}
 use Rattle.sorted.specs.Sorted.{Hit, miss, hit, lookBy}
 use Rattle.sorted.proofs.Order.{look-in, look-key}
 use Rattle.fields.specs.Files.{File, content, room, append, header}
@@ -19,16 +20,13 @@ use Rattle.table.specs.declared.Known.{Known}
 use Rattle.table.specs.declared.Known.the-variants.{Is, Absent}
 use Rattle.table.specs.Entries.{idOf, ascending, knownOf, statusOf, orKnown, largestBy, largestId}
 use Rattle.table.proofs.Facts.{status-member, id-bound}
-use Rattle.frames.proofs.Lists.{neither}
 use Rattle.world.specs.Refusals.{anyOf}
+use Rattle.opening.proofs.Formed.{absent-not}
 use Rattle.opening.specs.Opening.{records, noted, statuses}
 use Rattle.opening.proofs.Tables.{lastWord}
 use Rattle.opening.proofs.Covers.{covers-less}
 
 -- ---- a known status
-
-pub not-both : (k : Known) (s : Status) → k ≡ Absent → k ≡ Is s → ⊥
-not-both k s p q = let z : _≡_ {A = ℕ} 0 1 = cc in omega arith
 
 -- there, or absent
 pub data Seen (k : Known) : Type 0 where
@@ -47,7 +45,7 @@ unfolding statusOf
 found k l s h = go (lookBy idOf k l) refl h
   where
     go : (x : Hit Entry) → lookBy idOf k l ≡ x → knownOf x ≡ Is s → (e : Entry) × (lookBy idOf k l ≡ hit e)
-    go miss q h = absurd (not-both _ s refl h)
+    go miss q h = absurd (absent-not _ s refl h)
     go (hit e) q h = (e, q)
 
 missed : (k : ℕ) (l : List Entry) → statusOf k l ≡ Absent → lookBy idOf k l ≡ miss
@@ -56,7 +54,7 @@ missed k l h = go (lookBy idOf k l) h
   where
     go : (x : Hit Entry) → knownOf x ≡ Absent → x ≡ miss
     go miss h = refl
-    go (hit e) h = absurd (not-both _ (e .status) h refl)
+    go (hit e) h = absurd (absent-not _ (e .status) h refl)
 
 unlooked : (k : ℕ) (l : List Entry) → lookBy idOf k l ≡ miss → statusOf k l ≡ Absent
 unfolding statusOf

@@ -5,13 +5,12 @@ use mathlib.Core.List.{List, [], _∷_, _++_}
 use mathlib.Core.Bool.{Bool, true, false, cond, _&&_, _||_}
 use Prim.Native.Nat.{ℕ, zero, suc, _+_, _-_, _^_, _≤_, _<_}
 use native.Mathlib.Omega.{arith}
-use borrow.Author.Tests.{lt-ltb, le-ltb, le-leb, lt-leb, eq-eqb, ne-eqb, ltb-true, ltb-false, leb-true}
+use borrow.Author.Tests.{lt-ltb, le-leb, lt-leb, eq-eqb, ne-eqb, ltb-true, ltb-false, leb-true}
 use lib.Dec.{ltb, leb, eqb, lit<}
 use lib.ListN.{length, take, drop, getD, replicate, length-append, length-take, length-replicate}
 use lib.Seq.{sets, take-take, take-at, drop-at, drop-drop}
 use Rattle.fields.specs.Bytes.{leOf, bytesOf, Bytes, starts}
 use Rattle.fields.specs.Files.{File, content, room, unfit}
-use Rattle.fields.proofs.FileLaws.{unfit-len}
 use Rattle.fields.specs.Answers.{Told}
 use Rattle.fields.proofs.Tests.{both, Order, less, most, order}
 use Rattle.fields.proofs.ByteLaws.{length-bytesOf, bytesOf-bytes, leOf-bytesOf}
@@ -19,11 +18,6 @@ use Rattle.fields.proofs.Stored.{laid-next, starts-append}
 use Rattle.meta.specs.declared.Stored.{Stored}
 use Rattle.meta.specs.declared.Stored.the-variants.{Meta, Nothing, Outside}
 use Rattle.meta.specs.Page.{metaMagic, metaPage, hasMeta, field, storedNext, storedTime, storedMark, version, goodVersion, formatNo, counted, nothing, outside, storedTold, metaIn}
-
--- ---- a buffer and a length that are accepted
-
-pub fits : (f : File) → room f ≤ 16777216 → f .len ≤ room f → unfit 16777216 (room f) (f .len) ≡ false
-fits f h l = sym (unfit-len 16777216 (room f) (f .len) h) ∙ le-ltb (room f) (f .len) l
 
 -- ---- page 0 is whole and has the magic
 

@@ -10,7 +10,7 @@ use lib.ListN.{length}
 use borrow.Author.Tests.{ltb-false, leb-false}
 use Rattle.sorted.specs.Sorted.{ascendingBy}
 use Rattle.fields.specs.Files.{File, content, room, header}
-use Rattle.fields.proofs.Tests.{Equal, equal, other, equality, passed}
+use Rattle.fields.proofs.Tests.{Equal, equal, other, equality, passed, neither}
 use Rattle.fields.proofs.FileLaws.{lay-room, lay-len, header-room, header-len, header-content, fit-means}
 use Rattle.wal.specs.Records.{logMagic, Record, image, begin, commit, abort, checkpoint}
 use Rattle.table.specs.declared.Status.{Status}
@@ -25,7 +25,7 @@ use Rattle.clog.proofs.TableLaws.{knownAs, codeOrElse, AllFit, fit-by-status, R
 use Rattle.meta.specs.Page.{hasMeta, formatNo}
 use Rattle.frames.specs.Pages as pages
 use Rattle.frames.specs.Pages.{badPage, distinct, anyBad}
-use Rattle.frames.proofs.Lists.{neither}
+use Rattle.world.proofs.CallLaws.{both-zero}
 use Rattle.world.specs.World.{Files, World}
 use Rattle.world.specs.Refusals.{anyOf, orElse, badBuffers, frontNo}
 use Rattle.world.proofs.FormLaws.{InForm, none-of, form-front}
@@ -66,7 +66,7 @@ replay-fits P (r ∷ rs) db b h =
 
 -- ---- every id that the log's table has fits the clog's buffer
 
-absent-not : (k : Known) (s : Status) → k ≡ Absent → k ≡ Is s → ⊥
+pub absent-not : (k : Known) (s : Status) → k ≡ Absent → k ≡ Is s → ⊥
 absent-not k s p q = let z : _≡_ {A = ℕ} 0 1 = cc in omega arith
 
 noted-fits : (k size : ℕ) (e : Entry) (s : Status) → pastClog size e ≡ false → statusOf k (e ∷ []) ≡ Is s → 8 + k / 4 < size
@@ -131,10 +131,6 @@ pub record Passed (P : ℕ) (f : Files) (frames : List ℕ) : Type 0 where
   pub ids : anyOf (map (pastClog (room (f .clog))) (statuses (records P (f .log)))) ≡ false
   pub entries : length (fullTable P f) ≤ 256
   pub whole : endNo P (f .log) ≡ 0
-
-both-zero : (a b : ℕ) → orElse a b ≡ 0 → (a ≡ 0) × (b ≡ 0)
-both-zero zero b e = (refl, e)
-both-zero (suc a) b e = let z : suc a ≡ 0 = e in absurd (omega arith)
 
 pub no-means : (P : ℕ) (f : Files) (frames : List ℕ) → openNo P f frames ≡ 0 → Passed P f frames
 unfolding openNo openRoomNo badBuffers
@@ -288,7 +284,7 @@ module _ (P : ℕ) (f : Files) (frames : List ℕ) (ok : openNo P f frames ≡ 0
 
   -- ---- with a meta page the clog file says what the table says, Active as Aborted and times 0
 
-  left-valid : validClog (recordAll 8 0 (logTable P (f .log)) (settled 8 (openClog (f .clog)))) ≡ true
+  pub left-valid : validClog (recordAll 8 0 (logTable P (f .log)) (settled 8 (openClog (f .clog)))) ≡ true
   left-valid =
       let p = no-means P f frames ok in
       let o = open-fits (f .clog) (p .clog-len) (p .clog-room) in

@@ -8,6 +8,7 @@ use native.Mathlib.Omega.{arith}
 use lib.Dec.{ltb}
 use lib.ListN.{length, drop, length-append}
 use borrow.Author.Tests.{ne-eqb}
+use Rattle.fields.proofs.Tests.{or-false}
 use Rattle.fields.specs.Bytes.{starts}
 use Rattle.fields.specs.Files.{File, content, room, header}
 use Rattle.fields.specs.Answers.{Told}
@@ -25,7 +26,6 @@ use Rattle.world.specs.Run.{decided}
 use Rattle.world.specs.Refusals.{anyOf, orElse, badBuffers}
 use Rattle.form.specs.declared.Changed.{Changed}
 use Rattle.form.specs.Store.{laidStore, worldIn, Given}
-use Rattle.form.proofs.Arrays.{or-false}
 use Rattle.form.proofs.Called.{given-same}
 use Rattle.form.proofs.Worlds.{world-laid}
 use Rattle.opening.specs.declared.Verdict.{Verdict}

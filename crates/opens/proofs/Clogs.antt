@@ -8,10 +8,11 @@ use native.Mathlib.Omega.{arith}
 use borrow.Author.Tests.{lt-leb, le-ltb, leb-false}
 use lib.ListN.{length, take, getD, length-take}
 use lib.Seq.{take-suc, getD-take}
+use Rattle.fields.proofs.Tests.{neither}
 use Rattle.fields.specs.declared.Answer.{Answer}
 use Rattle.fields.specs.declared.Answer.the-variants.{Accepted, Refused}
 use Rattle.fields.specs.Files.{File, fileOf, content, room, header, unfit}
-use Rattle.fields.specs.Answers.{Outcome, told, outcome, decided}
+use Rattle.fields.specs.Answers.{lengthOf, Outcome, told, outcome, decided}
 use Rattle.fields.proofs.FileLaws.{fit-means, header-content}
 use Rattle.table.specs.declared.Entry.{Entry}
 use Rattle.table.specs.Entries.{blank, idOf}
@@ -22,12 +23,10 @@ use Rattle.clog.specs.Calls as calls
 use Rattle.clog.specs.Calls.{resetNo, recordNo, loadNo, wiped, recorded, LoadOutcome, loadOutcome, loadDecided, loaded}
 use Rattle.clog.proofs.SlotLaws.{record-len, settled-len}
 use Rattle.clog.proofs.TableLaws.{AllFit, record-append, open-kept, open-reset, open-room}
-use Rattle.frames.proofs.Lists.{neither}
 use Rattle.world.specs.Refusals.{anyOf}
 use Rattle.opening.specs.Opening.{pastClog, clogTable}
 use Rattle.opening.proofs.Tables.{clog-held}
 use Rattle.opening.proofs.Formed.{open-fits}
-use Rattle.opens.specs.Opens.{lengthOf}
 
 -- ---- an accepted answer
 

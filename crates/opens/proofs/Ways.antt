@@ -10,8 +10,8 @@ use lib.Dec.{eqb}
 use lib.ListN.{length, getD}
 use Rattle.fields.specs.declared.Answer.{Answer}
 use Rattle.fields.specs.Files.{File, fileOf, content, room, header, unfit}
-use Rattle.fields.specs.Answers.{Told, outcome}
-use Rattle.fields.proofs.Tests.{Equal, equal, other, equality}
+use Rattle.fields.specs.Answers.{lengthOf, Told, outcome}
+use Rattle.fields.proofs.Tests.{Equal, equal, other, equality, neither}
 use Rattle.wal.specs.Records.{logMagic}
 use Rattle.wal.specs.Writing.{truncateNo, truncated}
 use Rattle.table.specs.declared.Table.{Table}
@@ -23,7 +23,6 @@ use Rattle.meta.specs.declared.Stored.{Stored}
 use Rattle.meta.specs.declared.Stored.the-variants.{Meta, Nothing, Outside}
 use Rattle.meta.specs.Page.{hasMeta, storedNext, storedTime, storedMark, storedTold, metaIn}
 use Rattle.frames.specs.Pages.{emptyFrames, emptyTouched}
-use Rattle.frames.proofs.Lists.{neither}
 use Rattle.world.specs.declared.Lens.{Lens}
 use Rattle.world.specs.World.{filesOf}
 use Rattle.world.specs.Refusals.{badBuffers}
@@ -39,7 +38,7 @@ use Rattle.scan.specs.declared.Surveyed.{Surveyed}
 use Rattle.scan.specs.Surveys.{surveyed}
 use Rattle.scan.proofs.Surveys.{clog-fits}
 use Rattle.replay.specs.Replay.{laidFrom}
-use Rattle.opens.specs.Opens.{lengthOf, Loadable, clogBy, metaCounters, plainCounters, storeAtRest, storeBy}
+use Rattle.opens.specs.Opens.{Loadable, clogBy, metaCounters, plainCounters, storeAtRest, storeBy}
 use Rattle.opens.proofs.Clogs.{answered, none-past}
 
 -- ---- the number

@@ -5,8 +5,6 @@ use Prim.Native.Nat.{ℕ, _/_, _≤_, max}
 use mathlib.Core.List.{List, map}
 use mathlib.Core.Bool.{false}
 use lib.ListN.{length}
-use Rattle.fields.specs.declared.Answer.{Answer}
-use Rattle.fields.specs.declared.Answer.the-variants.{Accepted, Refused}
 use Rattle.fields.specs.Files.{File, room, header, unfit}
 use Rattle.table.specs.declared.Entry.{Entry}
 use Rattle.table.specs.declared.Table.{Table}
@@ -21,16 +19,6 @@ use Rattle.world.specs.declared.Slot.the-variants.{Empty}
 use Rattle.world.specs.Refusals.{anyOf}
 use Rattle.form.specs.declared.Store.{Store}
 use Rattle.opening.specs.Opening.{clogTable, pastClog}
-
--- the length that an accepted answer tells
-abbrev pub lengthOf : Answer → ℕ
-lengthOf (Accepted len) = len
-lengthOf (Refused number) = 0
-
--- what loading asks for: a clog that fits its buffer, which holds the header; at most 256 slots in use; room for the byte of every id of the log's table
-abbrev pub Loadable : File → List Entry → Type 0
-Loadable f logged =
-    (unfit 1048576 (room f) (f .len) ≡ false) × (8 ≤ room f) × (length (clogTable f) ≤ 256) × (anyOf (map (pastClog (room f)) logged) ≡ false)
 
 -- with a meta page the clog is opened and loaded, and the log's statuses are recorded in it; else it is reset
 abbrev pub clogBy : Stored → List Entry → File → File

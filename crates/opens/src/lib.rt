@@ -1,6 +1,5 @@
 // Opening a store: scan, lay the images, clog, table and counters, truncate. What comes out is defined in the crate opening; specs/Opens.antt tells what the
 // private functions give. Every test that can refuse with 1, 12 or 4 to 7 stands before the first change.
-use fields::Answer;
 use fields::CommitTime;
 use fields::TransactionId;
 use fields::numbers;
@@ -24,7 +23,7 @@ ghost use Rattle.table.specs.Entries.{listOf};
 ghost use Rattle.clog.specs.Slots.{openClog, recordAll, settled};
 ghost use Rattle.world.specs.Refusals.{anyOf};
 ghost use Rattle.opening.specs.Opening.{pastClog, hasLaid, noStore, openedAs, opened};
-ghost use Rattle.opens.specs.Opens.{lengthOf, Loadable, clogBy, timeBy, metaCounters, plainCounters, storeAtRest, storeBy};
+ghost use Rattle.opens.specs.Opens.{Loadable, clogBy, timeBy, metaCounters, plainCounters, storeAtRest, storeBy};
 
 // The most entries of a table.
 const TABLE_LIMIT: usize = 256;
@@ -136,16 +135,6 @@ fn unopened(verdict: Verdict) -> Opened
 
 // ---- the clog
 
-// Nothing is refused where this is asked: the room was tested before the first change.
-fn length_of(a: Answer) -> usize
-    ensures { λ r. ⌜ r ≡ lengthOf a ⌝ }
-{
-    match a {
-        Answer::Accepted(len) => len,
-        Answer::Refused(_) => 0,
-    }
-}
-
 // Every entry of the table recorded in the clog file, the last one first.
 fn record_all(clog: &mut [u8], len: usize, t: Table) -> usize
     requires { ⌜ (unfit 1048576 (length (now clog)) len ≡ false) × (8 ≤ len) × (anyOf (map (pastClog (length (now clog))) (listOf t)) ≡ false) ⌝ }
@@ -158,7 +147,7 @@ fn record_all(clog: &mut [u8], len: usize, t: Table) -> usize
         let e = t.entries[i];
         let id = e.id;
         let status = e.status;
-        n = length_of(clog::record(clog, n, id, status));
+        n = fields::length_of(clog::record(clog, n, id, status));
     }
     n
 }
@@ -168,10 +157,10 @@ fn load_clog(clog: &mut [u8], len: usize, logged: Table) -> usize
     requires { ⌜ Loadable (fileOf (now clog) len) (listOf logged) ⌝ }
     ensures { λ r. ⌜ fileOf (now (clog .exit)) r ≡ recordAll 8 0 (listOf logged) (settled 8 (openClog (fileOf (now (clog .entry)) len))) ⌝ }
 {
-    let end = length_of(clog::open(clog, len));
+    let end = fields::length_of(clog::open(clog, len));
     let l = clog::load(clog, end);
     let answer = l.answer;
-    record_all(clog, length_of(answer), logged)
+    record_all(clog, fields::length_of(answer), logged)
 }
 
 fn clog_by(stored: Stored, clog: &mut [u8], len: usize, logged: Table) -> usize
@@ -180,8 +169,8 @@ fn clog_by(stored: Stored, clog: &mut [u8], len: usize, logged: Table) -> usize
 {
     match stored {
         Stored::Meta(_) => load_clog(clog, len, logged),
-        Stored::Nothing => length_of(clog::reset(clog, len)),
-        Stored::Outside => length_of(clog::reset(clog, len)),
+        Stored::Nothing => fields::length_of(clog::reset(clog, len)),
+        Stored::Outside => fields::length_of(clog::reset(clog, len)),
     }
 }
 
@@ -219,7 +208,7 @@ pub fn open(lens: Lens, log: &mut [u8], db: &mut [u8], clog: &mut [u8], frames: 
     let logged = s.logged;
     let full = s.full;
     let c = clog_by(stored, clog, lens.clog, logged);
-    let l = length_of(wal::truncate(log, lens.log));
+    let l = fields::length_of(wal::truncate(log, lens.log));
     let left = Lens {
         log: l,
         db: n,

@@ -13,6 +13,7 @@ use Rattle.fields.specs.Files.{File, fileOf, room, unfit}
 use Rattle.fields.proofs.Tests.{passed}
 use Rattle.fields.proofs.FileLaws.{fit-ok}
 use Rattle.frames.specs.Copies.{pageOf, withFrame}
+use Rattle.world.proofs.CallLaws.{both-zero}
 use Rattle.world.specs.World.{Files, World, filesOf, lensOf}
 use Rattle.world.specs.Steps.{Step, applyAll}
 use Rattle.world.specs.Calls.{Call, steps, keeps}
@@ -38,10 +39,6 @@ use Rattle.ready.specs.declared.Counted.{Counted}
 use Rattle.ready.specs.Ready.{Prepared, prepared, remembered, readyFor, readied, metaOf, refillTo, refill, framed, idle, plain, withMeta, withLens, filesTo, filesAt, carriedOut, cutAt, calledTo, countedFor, countedOf}
 
 -- ---- numbers
-
-pub either-zero : (a b : ℕ) → orElse a b ≡ 0 → (a ≡ 0) × (b ≡ 0)
-either-zero zero b e = (refl, e)
-either-zero (suc a) b e = let z : suc a ≡ 0 = e in absurd (omega arith)
 
 first-zero : (a b : ℕ) → a ≡ 0 → orElse a b ≡ b
 first-zero a b e = rw e
@@ -297,10 +294,10 @@ module _ (P : ℕ) (c : Call) (s : Store) (log db clog frames : List ℕ) where
   accepted-room : refuses P c now ≡ 0 → numberFor P (steps P c now) (filesOf (s .lens) log db clog) ≡ 0
   unfolding refuses callNo worldOf
   accepted-room e =
-      let a = either-zero (frontNo P now) (callNo P c now) e in
-      let b = either-zero (argumentNo c now) _ (a .1) in
+      let a = both-zero (frontNo P now) (callNo P c now) e in
+      let b = both-zero (argumentNo c now) _ (a .1) in
       let d = passed (ltb 64 (length (keeps P c now .mem .touched))) 11 _ (omega arith) (b .1) in
-      let r = either-zero (roomNo P (steps P c now) (now .files)) (holdNo P (keeps P c now)) (d .1) in
+      let r = both-zero (roomNo P (steps P c now) (now .files)) (holdNo P (keeps P c now)) (d .1) in
       room-is P c s log db clog frames (a .0) (steps P c now) ∙ r .0
 
   files-cut : (k : ℕ) → filesAt P k (readyFor P c s log db clog frames) log db clog ≡ callTo P k c now

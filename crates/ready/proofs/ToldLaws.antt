@@ -6,6 +6,7 @@ use mathlib.Core.List.{List, []}
 use mathlib.Core.Bool.{Bool, true, false, cond}
 use lib.Dec.{ltb}
 use borrow.Author.Tests.{le-ltb}
+use Rattle.world.proofs.CallLaws.{both-zero}
 use Rattle.world.specs.World.{World, filesOf}
 use Rattle.world.specs.Steps as world
 use Rattle.world.specs.Steps.{tellAll}
@@ -22,7 +23,6 @@ use Rattle.form.proofs.Front.{front-means}
 use Rattle.ready.specs.declared.Ready.{Ready}
 use Rattle.ready.specs.declared.Told.{Told}
 use Rattle.ready.specs.Ready.{Prepared, prepared, remembered, readyFor, readied, ToldCall, toldBy, toldFor, toldOf}
-use Rattle.ready.proofs.Prepared.{either-zero}
 
 abbrev toldCall : ℕ → List ℕ → ToldCall
 toldCall n vs = record { number = n; values = vs }
@@ -63,7 +63,7 @@ module _ (P : ℕ) (big : 36 ≤ P) (k : ℕ) (c : Call) (s : Store) (log db clo
   short-log : refuses P c now ≡ 0 → ltb 16777216 (s .lens .log) ≡ false
   unfolding refuses
   short-log e =
-      let a = either-zero (frontNo P now) (callNo P c now) e in
+      let a = both-zero (frontNo P now) (callNo P c now) e in
       let i = front-means P s log db clog frames (a .0) in
       let l = i .log-limit in
       let f = i .log-fits in

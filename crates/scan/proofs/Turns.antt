@@ -9,6 +9,7 @@ use borrow.Author.Tests.{le-leb, lt-leb}
 use lib.Dec.{ltb}
 use lib.ListN.{length, take, drop, length-take, drop-of-length-le, length-append}
 use lib.Seq.{length-take-le}
+use Rattle.fields.proofs.Tests.{or-false}
 use Rattle.fields.specs.Bytes.{starts}
 use Rattle.fields.specs.Files.{File, fileOf, content, unfit}
 use Rattle.fields.proofs.FileLaws.{fit-means}
@@ -21,7 +22,6 @@ use Rattle.wal.proofs.ReadLaws.{Turn, stops, breaks, fails, goes, turn}
 use Rattle.table.specs.declared.Entry.{Entry}
 use Rattle.frames.specs.Pages.{badPage}
 use Rattle.world.specs.Refusals.{anyOf, orElse}
-use Rattle.form.proofs.Arrays.{or-false}
 use Rattle.opening.specs.Opening.{statuses, pastDb, pastClog}
 use Rattle.opening.proofs.Laws.{or-zero}
 use Rattle.scan.specs.declared.Scanned.{Scanned}

@@ -7,6 +7,7 @@ use mathlib.Core.Bool.{Bool, true, false, cond, _||_}
 use lib.ListN.{length}
 use lib.Dec.{ltb, eqb}
 use borrow.Author.Tests.{eqb-true}
+use Rattle.fields.proofs.Tests.{neither}
 use Rattle.fields.specs.declared.TransactionId.{TransactionId}
 use Rattle.fields.specs.Files.{File, lay}
 use Rattle.table.specs.declared.Status.the-variants.{Aborted}
@@ -19,7 +20,6 @@ use Rattle.meta.proofs.Laws.{length-meta}
 use Rattle.frames.specs.Pages as pages
 use Rattle.frames.specs.Pages.{isIn, slotOf, badPage, anyBad}
 use Rattle.frames.specs.Copies.{withFrame}
-use Rattle.frames.proofs.Lists.{neither}
 use Rattle.world.specs.declared.Slot.the-variants.{Installed, Empty}
 use Rattle.world.specs.World.{Files, Mem, World}
 use Rattle.world.specs.Steps.{Step, apply, applyAll}

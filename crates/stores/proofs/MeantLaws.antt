@@ -17,8 +17,7 @@ use Rattle.world.specs.Calls as calls
 use Rattle.world.specs.Calls.{heldPage, images, writes}
 use Rattle.world.specs.Refusals.{anyOf, badBuffers, badStore, frontNo, roomNo}
 use Rattle.fields.specs.Files.{room, unfit}
-use Rattle.fields.proofs.Tests.{passed}
-use Rattle.frames.proofs.Lists.{neither}
+use Rattle.fields.proofs.Tests.{passed, neither}
 use Rattle.stores.specs.Room.{formNo, numberFor}
 use lib.Dec.{ltb, lit<}
 use Rattle.stores.specs.declared.Plan.{Plan}

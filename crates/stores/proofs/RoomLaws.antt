@@ -18,6 +18,7 @@ use Rattle.wal.proofs.WriteLaws.{id-size, commit-size, page-size}
 use Rattle.meta.proofs.Laws.{length-meta}
 use Rattle.frames.specs.Copies.{frameOf}
 use Rattle.frames.proofs.CopyLaws.{length-frame}
+use Rattle.world.proofs.CallLaws.{both-zero}
 use Rattle.world.specs.declared.Lens.{Lens}
 use Rattle.world.specs.World.{Files, filesOf, lensOf}
 use Rattle.world.specs.Steps as world
@@ -124,10 +125,6 @@ needs-none P p i h = ap (needsOf P) (meant-end P [] p i h)
 
 -- ---- the number
 
-orElse-zero : (a b : ℕ) → orElse a b ≡ 0 → (a ≡ 0) × (b ≡ 0)
-orElse-zero zero b e = (refl, e)
-orElse-zero (suc a) b e = let z : suc a ≡ 0 = e in absurd (omega arith)
-
 pub orElse-first : (a b : ℕ) → (a ≡ 0 → ⊥) → a ≡ orElse a b
 orElse-first zero b h = absurd (h refl)
 orElse-first (suc a) b h = refl
@@ -167,7 +164,7 @@ formed-log n log db clog e = formed n log db clog e .logFits .1
 pub accepted-enough : (P : ℕ) (ss : List world.Step) (f : Files) → numberFor P ss f ≡ 0 → Enough P ss f
 unfolding numberFor roomNo
 accepted-enough P ss f e =
-    let o = orElse-zero (formNo (lensOf f) (room (f .log)) (room (f .db)) (room (f .clog))) (roomNo P ss f) e in
+    let o = both-zero (formNo (lensOf f) (room (f .log)) (room (f .db)) (room (f .clog))) (roomNo P ss f) e in
     let g = formed (lensOf f) (room (f .log)) (room (f .db)) (room (f .clog)) (o .0) in
     let a = passed (ltb (room (f .log)) (f .log .len + sumOf logBytes ss)) 4 _ (lit< tt) (o .1) in
     let b = passed (ltb (room (f .db)) (mostOf (dbEnd P) ss)) 5 _ (lit< tt) (a .1) in

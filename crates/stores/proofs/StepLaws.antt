@@ -12,7 +12,7 @@ use Rattle.fields.specs.declared.Answer.{Answer}
 use Rattle.fields.specs.declared.Answer.the-variants.{Accepted, Refused}
 use Rattle.fields.specs.Bytes.{part}
 use Rattle.fields.specs.Files.{File, fileOf, room, lay, append, header, unfit}
-use Rattle.fields.specs.Answers.{outcome, decided}
+use Rattle.fields.specs.Answers.{lengthOf, outcome, decided}
 use Rattle.fields.proofs.ByteLaws.{part-in}
 use Rattle.fields.proofs.FileLaws.{lay-room, lay-len, lay-within, append-is, header-room, header-len, fit-ok}
 use Rattle.fields.proofs.AnswerLaws.{outcome-same, outcome-accepted}
@@ -28,7 +28,7 @@ use Rattle.clog.proofs.Theorems.{recorded-plain, compacted-plain}
 use Rattle.world.specs.World.{Files, filesOf}
 use Rattle.world.specs.Steps as world
 use Rattle.world.specs.Steps.{apply, withLog, withDb, withClog, logBytes, dbEnd, clogEnd, sumOf, mostOf}
-use Rattle.stores.specs.Room.{Enough, lengthOf}
+use Rattle.stores.specs.Room.{Enough}
 
 -- ---- a call on one file that is accepted
 

@@ -6,8 +6,6 @@ use mathlib.Core.List.{List, [], _∷_}
 use mathlib.Core.Bool.{cond}
 use lib.ListN.{take}
 use lib.Dec.{ltb}
-use Rattle.fields.specs.declared.Answer.{Answer}
-use Rattle.fields.specs.declared.Answer.the-variants.{Accepted, Refused}
 use Rattle.fields.specs.Files.{File, room, unfit}
 use Rattle.world.specs.declared.Lens.{Lens}
 use Rattle.world.specs.World.{Files, filesOf, lensOf}
@@ -82,8 +80,3 @@ pub record Enough (P : ℕ) (ss : List world.Step) (f : Files) : Type 0 where
   pub clogLen : f .clog .len ≤ room (f .clog)
   pub clogFits : mostOf clogEnd ss ≤ room (f .clog)
   pub clogLimit : room (f .clog) ≤ 1048576
-
--- the length that an accepted call answers
-abbrev pub lengthOf : Answer → ℕ
-lengthOf (Accepted len) = len
-lengthOf (Refused number) = 0

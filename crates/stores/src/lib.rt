@@ -21,7 +21,7 @@ ghost use Rattle.world.specs.World.{filesOf};
 ghost use Rattle.world.specs.Steps.{apply, applyAll};
 ghost use Rattle.world.specs.Refusals.{orElse};
 ghost use Rattle.stores.specs.Plans.{beginSteps, flushSteps, commitSteps, rollbackSteps, advanceSteps, metaStep, stepsOf, meaning, meant};
-ghost use Rattle.stores.specs.Room.{formNo, numberFor, cutOf, carried, needing, needsOf, costOf, shortNo, Enough, lengthOf};
+ghost use Rattle.stores.specs.Room.{formNo, numberFor, cutOf, carried, needing, needsOf, costOf, shortNo, Enough};
 ghost use Rattle.stores.specs.Told.{tellingTold, firstTold, toldIn, toldBy, lens, lensAfter, tellSteps};
 
 // The most pages of a plan.
@@ -267,16 +267,6 @@ fn put_page(db: &mut [u8], len: usize, page: u32, frames: &[u8], slot: usize) ->
     fields::larger(len, at + numbers::PAGE_SIZE)
 }
 
-// There is room for every store that is carried out, so no call on one file is refused here.
-fn length_of(a: Answer) -> usize
-    ensures { λ r. ⌜ r ≡ lengthOf a ⌝ }
-{
-    match a {
-        Answer::Accepted(len) => len,
-        Answer::Refused(_) => 0,
-    }
-}
-
 // Page 0 leaves no gap.
 fn put_counters(db: &mut [u8], len: usize, m: Counters) -> usize
     ensures { λ r. ⌜ fileOf (now (db .exit)) r ≡ lay (fileOf (now (db .entry)) len) 0 (metaPage 4096 (m .next .0) (m .time .0) (m .mark .0)) ⌝ }
@@ -308,15 +298,23 @@ fn apply_step(
     let c = lens.clog;
     match step {
         Step::LogImage(page, slot) => lengths(put_image(log, l, page, frames, slot), d, c),
-        Step::LogBegin(id) => lengths(length_of(wal::append_begin(log, l, id)), d, c),
-        Step::LogCommit(id, time) => lengths(length_of(wal::append_commit(log, l, id, time)), d, c),
-        Step::LogAbort(id) => lengths(length_of(wal::append_abort(log, l, id)), d, c),
-        Step::LogCheckpoint => lengths(length_of(wal::append_checkpoint(log, l)), d, c),
+        Step::LogBegin(id) => lengths(fields::length_of(wal::append_begin(log, l, id)), d, c),
+        Step::LogCommit(id, time) => lengths(
+            fields::length_of(wal::append_commit(log, l, id, time)),
+            d,
+            c,
+        ),
+        Step::LogAbort(id) => lengths(fields::length_of(wal::append_abort(log, l, id)), d, c),
+        Step::LogCheckpoint => lengths(fields::length_of(wal::append_checkpoint(log, l)), d, c),
         Step::WritePage(page, slot) => lengths(l, put_page(db, d, page, frames, slot), c),
         Step::WriteMeta(m) => lengths(l, put_counters(db, d, m), c),
-        Step::SetSlot(id, status) => lengths(l, d, length_of(clog::record(clog, c, id, status))),
-        Step::Compact(below) => lengths(l, d, length_of(clog::compact(clog, c, below))),
-        Step::Truncate => lengths(length_of(wal::truncate(log, l)), d, c),
+        Step::SetSlot(id, status) => lengths(
+            l,
+            d,
+            fields::length_of(clog::record(clog, c, id, status)),
+        ),
+        Step::Compact(below) => lengths(l, d, fields::length_of(clog::compact(clog, c, below))),
+        Step::Truncate => lengths(fields::length_of(wal::truncate(log, l)), d, c),
     }
 }
 

@@ -1,6 +1,5 @@
 // Runs calls on a store that holds nothing yet, and writes of each its number and the lengths of the files after it; of a commit and of a mark also how many
 // stores there will be, and of a commit what each of them is. The last calls read the page with the greatest number and ask for one more.
-use fields::Answer;
 use fields::CommitTime;
 use fields::TransactionId;
 use form::Changed;
@@ -36,14 +35,6 @@ fn sum(s: &[u8]) -> u64 {
         i += 1;
     }
     total
-}
-
-// The length that a file has after a call on it alone; 0 where it was refused.
-fn length_of(a: Answer) -> usize {
-    match a {
-        Answer::Accepted(n) => n,
-        Answer::Refused(_) => 0,
-    }
 }
 
 fn fresh(log: usize, clog: usize) -> Store {
@@ -234,8 +225,8 @@ fn main() {
     let mut db = [0xEEu8; 20480];
     let mut clog = [0xEEu8; 64];
     let mut frames = [0xEEu8; 16384];
-    let m = length_of(wal::truncate(&mut log, 0));
-    let n = length_of(clog::open(&mut clog, 0));
+    let m = fields::length_of(wal::truncate(&mut log, 0));
+    let n = fields::length_of(clog::open(&mut clog, 0));
     let s = fresh(m, n);
     let a = empty_commit(s, &mut log, &mut db, &mut clog, &mut frames);
     let b = full_commit(a, &mut log, &mut db, &mut clog, &mut frames);

@@ -126,18 +126,18 @@ module _ (P : ℕ) (w : World) (t l d g e r : ℕ) where
         le-ltb (frameCount 64 P (length (w .frames))) r (f .resident-fit),
       )
 
-or-zero : (a b : ℕ) → orElse a b ≡ 0 → (a ≡ 0) × (b ≡ 0)
-or-zero zero b h = (refl, h)
-or-zero (suc a) b h = absurd (omega arith)
+pub both-zero : (a b : ℕ) → orElse a b ≡ 0 → (a ≡ 0) × (b ≡ 0)
+both-zero zero b h = (refl, h)
+both-zero (suc a) b h = absurd (omega arith)
 
 -- an accepted call: its arguments are good, and all that it needs fits
 pub call-good : (P : ℕ) (c : Call) (w : World) → callNo P c w ≡ 0 → argumentNo c w ≡ 0
 unfolding callNo
-call-good P c w h = or-zero (argumentNo c w) _ h .0
+call-good P c w h = both-zero (argumentNo c w) _ h .0
 
 pub call-fits : (P : ℕ) (c : Call) (w : World) → length (keeps P c w .frames) ≡ length (w .frames) → callNo P c w ≡ 0 →
     Fits P w (length (keeps P c w .mem .touched)) (sumOf logBytes (steps P c w)) (mostOf (dbEnd P) (steps P c w)) (mostOf clogEnd (steps P c w)) (length (keeps P c w .mem .table)) (length (keeps P c w .mem .resident))
-call-fits P c w same h = chain-fits P w _ _ _ _ _ _ (or-zero (argumentNo c w) _ (sym (call-no P c w same) ∙ h) .1)
+call-fits P c w same h = chain-fits P w _ _ _ _ _ _ (both-zero (argumentNo c w) _ (sym (call-no P c w same) ∙ h) .1)
 
 -- ---- the numbers of the parts of a store: 7, 8 and 11, as the chains have them
 
@@ -319,7 +319,7 @@ module _ (P p : ℕ) (w : World) where
           (ten-first (badPage p) (cond (ltb (room (w .files .log)) (w .files .log .len + (5 + P))) 4 (cond (ltb (room (w .files .db)) (p * P + P)) 5 0)))
 
       pub flush-fits-out : callNo P (Flush p) w ≡ 0 → Fits P w (length (w .mem .touched)) (5 + P) (p * P + P) 0 (length (w .mem .table)) (length (w .mem .resident))
-      flush-fits-out h = chain-fits P w _ _ _ _ _ _ (or-zero (cond (badPage p) 10 0) _ (sym flush-chain ∙ h) .1)
+      flush-fits-out h = chain-fits P w _ _ _ _ _ _ (both-zero (cond (badPage p) 10 0) _ (sym flush-chain ∙ h) .1)
 
 -- ---- commit
 

@@ -8,12 +8,11 @@ use lib.Dec.{ltb, lit<}
 use lib.ListN.{length, getD}
 use Rattle.fields.specs.Files.{room, unfit}
 use Rattle.fields.proofs.FileLaws.{fit-means}
-use Rattle.fields.proofs.Tests.{passed}
+use Rattle.fields.proofs.Tests.{passed, neither}
 use Rattle.table.specs.declared.Entry.{Entry}
 use Rattle.table.specs.Entries.{ascending}
 use Rattle.frames.specs.Pages as pages
 use Rattle.frames.specs.Pages.{distinct, anyBad, frameCount}
-use Rattle.frames.proofs.Lists.{neither}
 use Rattle.world.specs.World.{World}
 use Rattle.world.specs.Refusals.{anyOf, badBuffers, badTable, badTouched, badFrames, badStore, frontNo}
 

@@ -1,7 +1,7 @@
 -- `form::buffers_bad` meets its contract: the tests of `badBuffers`, one after the other. Assumes nothing.
+use Rattle.fields.proofs.Tests.{or-false}
 use Rattle.world.specs.Refusals.{badBuffers, anyOf}
 use borrow.Author.Needs.{needs}
-use Rattle.form.proofs.Arrays.{or-false}
 use Rattle.form.proofs.buffers_bad.Statement.{statement}
 use Rattle.form.proofs.buffers_bad.Tie as tie
 

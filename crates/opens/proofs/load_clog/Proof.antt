@@ -1,8 +1,8 @@
 -- `opens::load_clog` meets its contract: opened, loaded, recorded. Assumes nothing.
 use mathlib.Core.Path.{_≡_, _∙_}
+use Rattle.fields.specs.Answers.{lengthOf}
 use Rattle.fields.specs.Files.{File, fileOf}
 use Rattle.clog.specs.Slots.{openClog, settled}
-use Rattle.opens.specs.Opens.{lengthOf}
 use Rattle.opens.proofs.Clogs.{fit-len, is-open, is-loaded, loads}
 use borrow.Author.Needs.{needs}
 use Rattle.opens.proofs.load_clog.Statement.{statement}

@@ -1,12 +1,12 @@
 -- `opens::open` meets its contract: one law for each way out, and what the calls promise as its premises. Assumes nothing.
 use mathlib.Core.Path.{_≡_, sym, ap, _∙_}
 use borrow.Author.Tests.{not-true, not-false}
+use Rattle.fields.specs.Answers.{lengthOf}
 use Rattle.fields.specs.Files.{File, fileOf}
 use Rattle.world.specs.World.{filesOf}
 use Rattle.opening.specs.Opening.{openNo}
 use Rattle.scan.specs.declared.Surveyed.{Surveyed}
 use Rattle.scan.specs.Surveys.{surveyed}
-use Rattle.opens.specs.Opens.{lengthOf}
 use Rattle.opens.proofs.Ways.{lays-zero, out-refused, out-torn, out-unknown, logged-is, full-is, ready, is-cut, db-small, out-accepted}
 use borrow.Author.Needs.{needs}
 use Rattle.opens.proofs.open.Statement.{statement}
