@@ -20,6 +20,11 @@ use Rattle.world.specs.Refusals.{anyOf}
 use Rattle.form.specs.declared.Store.{Store}
 use Rattle.opening.specs.Opening.{clogTable, pastClog}
 
+-- what loading asks for: a clog that fits its buffer, which holds the header; at most 256 slots in use; room for the byte of every id of the log's table
+abbrev pub Loadable : File → List Entry → Type 0
+Loadable f logged =
+    (unfit 1048576 (room f) (f .len) ≡ false) × (8 ≤ room f) × (length (clogTable f) ≤ 256) × (anyOf (map (pastClog (room f)) logged) ≡ false)
+
 -- with a meta page the clog is opened and loaded, and the log's statuses are recorded in it; else it is reset
 abbrev pub clogBy : Stored → List Entry → File → File
 clogBy (Meta m) logged f = recordAll 8 0 logged (settled 8 (openClog f))
