@@ -1,8 +1,8 @@
--- `records::list` ends: a turn is taken from those that are left. Assumes nothing.
+-- `walking::list` ends: a turn is taken from those that are left. Assumes nothing.
 use Prim.Native.Nat.{_≤_}
 use borrow.Author.Needs.{needs}
-use Rattle.records.proofs.list.Statement.{statement}
-use Rattle.records.proofs.list.Tie as tie
+use Rattle.walking.proofs.list.Statement.{statement}
+use Rattle.walking.proofs.list.Tie as tie
 
 abbrev Inv-loop : tie.InvT-loop
 Inv-loop log len at₀ left₀ at left = left ≤ 24576
@@ -10,8 +10,8 @@ Inv-loop log len at₀ left₀ at left = left ≤ 24576
 abbrev μ-loop : tie.MeasureT-loop
 μ-loop log len at₀ left₀ at left = left
 
-start-of-requires : tie.Need-start-of-requires Inv-loop μ-loop
-start-of-requires c κs = search needs
+start-requires : tie.Need-start-requires Inv-loop μ-loop
+start-requires c κs = search needs
 
 loop-holds : tie.Need-loop-holds Inv-loop μ-loop
 loop-holds c = search needs
@@ -19,8 +19,14 @@ loop-holds c = search needs
 sub-left : tie.Need-sub-left Inv-loop μ-loop
 sub-left c = search needs
 
-read-record-requires : tie.Need-read-record-requires Inv-loop μ-loop
-read-record-requires c κs = search needs
+image-from-requires : tie.Need-image-from-requires Inv-loop μ-loop
+image-from-requires c κs = search needs
+
+place-after-requires : tie.Need-place-after-requires Inv-loop μ-loop
+place-after-requires c κs = search needs
+
+record-from-requires : tie.Need-record-from-requires Inv-loop μ-loop
+record-from-requires c κs = search needs
 
 show-requires : tie.Need-show-requires Inv-loop μ-loop
 show-requires c κs = search needs
@@ -43,10 +49,12 @@ list-spec =
     (tie.spec
     Inv-loop
     μ-loop
-    start-of-requires
+    start-requires
     loop-holds
     sub-left
-    read-record-requires
+    image-from-requires
+    place-after-requires
+    record-from-requires
     show-requires
     returns
     loop-less

@@ -1,9 +1,9 @@
--- `records::report` is safe: the log is the buffer but for its last byte. Assumes nothing.
+-- `walking::report` is safe: the log is the buffer but for its last byte. Assumes nothing.
 use native.Mathlib.Omega.{arith}
 use borrow.Author.Needs.{needs}
 use lib.ListN.{length-take}
-use Rattle.records.proofs.report.Statement.{statement}
-use Rattle.records.proofs.report.Tie as tie
+use Rattle.walking.proofs.report.Statement.{statement}
+use Rattle.walking.proofs.report.Tie as tie
 
 slice-aggregate-word : tie.Need-slice-aggregate-word
 slice-aggregate-word c = search needs
