@@ -1,11 +1,10 @@
 -- The table of a store that passes the tests of 1 and 14 is in form, and its entries are those of the store's world; so what `hand_after` gives is what the
 -- call must give. Assumes nothing.
-use mathlib.Core.Path.{_≡_, refl, sym, subst, _∙_}
+use mathlib.Core.Path.{_≡_, refl}
 use Prim.Native.Nat.{ℕ, zero, suc, _≤_}
 use native.Mathlib.Omega.{arith}
-use mathlib.Core.Bool.{true, cond, _&&_}
+use mathlib.Core.Bool.{true}
 use mathlib.Core.List.{List}
-use lib.Dec.{leb}
 use lib.ListN.{length}
 use borrow.Author.Tests.{le-leb}
 use Rattle.table.specs.declared.Entry.{Entry}
@@ -15,8 +14,8 @@ use Rattle.world.specs.Refusals.{orElse, frontNo}
 use Rattle.form.specs.declared.Store.{Store}
 use Rattle.form.specs.Store.{entriesOf, memOf, worldOf}
 use Rattle.form.proofs.Arrays.{length-first, first-fits}
-use Rattle.form.proofs.Front.{InForm, front-means}
-use Rattle.hands.specs.Handing.{Handed, handedBy, shortNo, handNo, handed}
+use Rattle.form.proofs.Front.{front-means}
+use Rattle.hands.specs.Handing.{handedBy, shortNo, handNo, handed}
 use Rattle.handing.specs.Tables.{tableHanded}
 
 module _ (t : Table) (len : length (t .entries) ≡ 256) (few : t .count ≤ 256) where

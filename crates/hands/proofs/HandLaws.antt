@@ -1,7 +1,8 @@
--- Laws of a hand-out: its number, test by test; how many entries go; and the list of a loop that lays the first entries of one list over another, one at a time.
+-- Laws of a hand-out: its number, test by test; how many entries go; and the list of a loop that lays the first entries of one list over another, one at a
+-- time.
 --     upTo es xs i     the first i of es, then xs from i on.        upTo-length      it is as long as xs.        upTo-next    with es[i] stored at i it is upTo at i + 1
 -- Assumes nothing.
-use mathlib.Core.Path.{_≡_, refl, sym, ap, _∙_}
+use mathlib.Core.Path.{_≡_, refl, ap, _∙_}
 use Prim.Native.Nat.{ℕ, zero, suc, _≤_, _<_}
 use native.Mathlib.Nat.{not-suc-le-zero, le-of-suc-le-suc}
 use native.Mathlib.Omega.{arith}
@@ -15,7 +16,7 @@ use Rattle.fields.specs.declared.Answer.the-variants.{Accepted, Refused}
 use Rattle.table.specs.declared.Entry.{Entry}
 use Rattle.table.specs.declared.Table.{Table}
 use Rattle.table.specs.Entries.{listOf, ascending, wellFormed}
-use Rattle.hands.specs.Handing.{Handed, handedAs, handedBy, shortNo, handNo, handed, countIf, replyIf, toHand, replyOf}
+use Rattle.hands.specs.Handing.{handedAs, handedBy, handNo, handed, countIf, replyIf, toHand, replyOf}
 
 -- ---- lists
 
@@ -63,7 +64,8 @@ module _ (N : ℕ) (t : Table) (room : ℕ) where
     no-none h l = rw (passed, ← form, not-no w h, le-ltb room (t .count) l)
 
   -- where it is 0, the table's count is within its limit and the slice
-  by-tests : (l a s : Bool) → leb (t .count) N ≡ l → ltb room (t .count) ≡ s → _≡_ {A = ℕ} (cond (l && a) (cond s 13 0) 14) 0 → (t .count ≤ N) × (t .count ≤ room)
+  by-tests : (l a s : Bool) → leb (t .count) N ≡ l → ltb room (t .count) ≡ s → _≡_ {A = ℕ} (cond (l && a) (cond s 13 0) 14) 0
+      → (t .count ≤ N) × (t .count ≤ room)
   by-tests true true false p q e = (leb-true (t .count) N p, ltb-false room (t .count) q)
   by-tests true true true p q e = absurd (omega (arith, e))
   by-tests true false s p q e = absurd (omega (arith, e))

@@ -7,7 +7,7 @@ use lib.ListN.{length, getD, drop}
 use lib.Dec.{eqb}
 use Rattle.fields.specs.Files.{File, content}
 use Rattle.fields.specs.Answers.{Told}
-use Rattle.wal.specs.Records.{Record, image, begin, commit, abort, checkpoint, Front, ended, torn, unknown, one, decode}
+use Rattle.wal.specs.Records.{image, begin, commit, abort, checkpoint, Front, ended, torn, unknown, one, decode}
 use Rattle.wal.specs.Reading.{readTold, readIn, saidAt, outside}
 use Rattle.wal.specs.declared.WalRecord.the-variants.{Image, Begin, Commit, Abort, Checkpoint}
 use Rattle.wal.specs.declared.Read.{Read}

@@ -1,5 +1,7 @@
--- `handing::hand_out_table` meets its contract: a walk of its MIR, by hand. `form::front_no` is called on the store and the four buffers; then the table is taken out of the store, and the slice is passed on to `hands::hand_after`, for good, with the number.
--- All that the proof knows of the two is that each meets its contract. A `&[u8]` is Copy: what each buffer owns is had twice, once for the callee and once for the exit. Each reference has a lifetime of its own, and its token goes to the callee that takes the reference and comes back.
+-- `handing::hand_out_table` meets its contract: a walk of its MIR, by hand. `form::front_no` is called on the store and the four buffers; then the table is
+-- taken out of the store, and the slice is passed on to `hands::hand_after`, for good, with the number.
+-- All that the proof knows of the two is that each meets its contract. A `&[u8]` is Copy: what each buffer owns is had twice, once for the callee and once for
+-- the exit. Each reference has a lifetime of its own, and its token goes to the callee that takes the reference and comes back.
 -- Assumes nothing.
 use mathlib.Core.Path.{_≡_, refl, sym, ap, subst, _∙_}
 use Prim.Native.Nat.{ℕ, _<_, _^_}
@@ -92,8 +94,10 @@ module _ {M : Type 1} (𝓤 : URA M) (H : Heap 𝓤) (A : Atoms 𝓤) (mem : Mem
   Under = tripleOf 𝓤 H A below.signature (below.spec 𝓤 H A mem run)
 
 -- d is the store, s₀ to s₃ the buffers, and xs what stands in the slice
-module _ {M : Type 1} (𝓤 : URA M) (H : Heap 𝓤) (A : Atoms 𝓤) (W : Given 𝓤 H A) (mem : Memory → SProp 𝓤) (run : Routine → Fun 𝓤) (κ₀ κ₁ κ₂ κ₃ κ₄ : Lft) (q₀ q₁ q₂ q₃ q₄ : Share)
-    (s₀ s₁ s₂ s₃ : RefT (List ℕ)) (b o : ℕ) (γ : GName) (xs : List Entry) (d : Store) (d-is : Is St.the-row d (LL.vals St.the-type St′.the-laws d)) (room : Room E.the-row (length xs)) where
+module _ {M : Type 1} (𝓤 : URA M) (H : Heap 𝓤) (A : Atoms 𝓤) (W : Given 𝓤 H A) (mem : Memory → SProp 𝓤)
+    (run : Routine → Fun 𝓤) (κ₀ κ₁ κ₂ κ₃ κ₄ : Lft) (q₀ q₁ q₂ q₃ q₄ : Share)
+    (s₀ s₁ s₂ s₃ : RefT (List ℕ)) (b o : ℕ) (γ : GName) (xs : List Entry) (d : Store) (d-is : Is St.the-row d (LL.vals St.the-type St′.the-laws d))
+    (room : Room E.the-row (length xs)) where
   abbrev R : RattleType
   R = E.the-row
 
@@ -192,7 +196,8 @@ module _ {M : Type 1} (𝓤 : URA M) (H : Heap 𝓤) (A : Atoms 𝓤) (W : Given
   asked = qed W (four ∷ ‵ (owns (St.the-row ∷ B₀ ∷ B₁ ∷ B₂ ∷ B₃ ∷ []) args₅ vals₅) ∷ []) ∵ join ! $ frame ! $ done !
 
   -- what is had on entry gives what the first callee asks, and beside it the fifth token, the slice, and the buffers once more
-  apart : ent 𝓤 (onEntry 𝓤 H A hand-out-table.signature κs qs args vals) (sep 𝓤 (Front 𝓤 H A mem run .pre to-front) (sep 𝓤 (sep 𝓤 (A .lft κ₄ q₄) (sem 𝓤 H A ftrue)) (sep 𝓤 (sem 𝓤 H A Lent) (sem 𝓤 H A Bufs))))
+  apart : ent 𝓤 (onEntry 𝓤 H A hand-out-table.signature κs qs args vals)
+      (sep 𝓤 (Front 𝓤 H A mem run .pre to-front) (sep 𝓤 (sep 𝓤 (A .lft κ₄ q₄) (sem 𝓤 H A ftrue)) (sep 𝓤 (sem 𝓤 H A Lent) (sem 𝓤 H A Bufs))))
   apart =
       qed W (five ∷ ‵ (owns (St.the-row ∷ B₀ ∷ B₁ ∷ B₂ ∷ B₃ ∷ MutSlice (named 4) κ₄ R ∷ []) args vals) ∷ []) ∵
       move ! (1 ∷ []) $ fsplit ! $ drop ! $
@@ -230,52 +235,78 @@ module _ {M : Type 1} (𝓤 : URA M) (H : Heap 𝓤) (A : Atoms 𝓤) (W : Given
   abbrev Said : Answer → List Entry → Type 0
   Said r zs = handedAs r zs ≡ handed 256 tb xs k
 
-  exits : (r : Answer) (w : Val) (zs : List Entry) → Said r zs → length zs ≡ length xs → ent 𝓤 (⋆ 𝓤 H A (four ∷ fifth ∷ ‵ Bufs ∷ ‵ (finally R γ zs) ∷ ‵ (S.the-row .own r (w ∷ [])) ∷ [])) (Post w)
+  exits : (r : Answer) (w : Val) (zs : List Entry) → Said r zs → length zs ≡ length xs
+      → ent 𝓤 (⋆ 𝓤 H A (four ∷ fifth ∷ ‵ Bufs ∷ ‵ (finally R γ zs) ∷ ‵ (S.the-row .own r (w ∷ [])) ∷ [])) (Post w)
   exits r w zs e l =
       qed W (four ∷ fifth ∷ ‵ Bufs ∷ ‵ (finally R γ zs) ∷ ‵ (S.the-row .own r (w ∷ [])) ∷ []) ∵
-      suffices ! _ (ends-at 𝓤 H A hand-out-table.ended stayed (hand-out-table.clauses 𝓤 H A mem run) W ((κs, qs, tt, args, vals), tt) w r (tt, (tt, (tt, (tt, (tt, (zs, tt)))))) (tt, (tt, (tt, (tt, (tt, (l, tt))))))) $
+      suffices ! _ (ends-at 𝓤 H A hand-out-table.ended stayed (hand-out-table.clauses 𝓤 H A mem run) W ((κs, qs, tt, args, vals), tt) w r
+      (tt, (tt, (tt, (tt, (tt, (zs, tt)))))) (tt, (tt, (tt, (tt, (tt, (l, tt))))))) $
       says ! (e ∙ table-handed 4096 d (now s₀) (now s₁) (now s₂) (now s₃) count-is xs) $
       -- the five tokens
-      split ! $ move ! (1 ∷ []) $ split ! $ move ! (1 ∷ []) $ split ! $ move ! (1 ∷ []) $ split ! $ move ! (0 ∷ 5 ∷ []) $ join ! $ move ! (2 ∷ 0 ∷ []) $ join ! $ move ! (2 ∷ 0 ∷ []) $ join ! $ move ! (2 ∷ 0 ∷ []) $ join ! $ frame ! $
+      split ! $ move ! (1 ∷ []) $ split ! $ move ! (1 ∷ []) $ split ! $ move ! (1 ∷ []) $ split ! $ move ! (0 ∷ 5 ∷ []) $ join ! $ move ! (2 ∷ 0 ∷ []) $
+      join ! $ move ! (2 ∷ 0 ∷ []) $ join ! $ move ! (2 ∷ 0 ∷ []) $ join ! $ frame ! $
       -- [true; the buffers; the last list; the answer]
       drop ! $ fsplit ! $ move ! (1 ∷ []) $ fsplit ! $ move ! (1 ∷ []) $ fsplit ! $ move ! (1 ∷ []) $ fsplit ! $
       -- [the fourth buffer; true; the third; the second; the first; the last list; the answer]
-      move ! (5 ∷ 1 ∷ []) $ fjoin ! $ move ! (1 ∷ 0 ∷ []) $ fjoin ! $ move ! (1 ∷ 0 ∷ []) $ fjoin ! $ move ! (1 ∷ 0 ∷ []) $ fjoin ! $ move ! (1 ∷ 0 ∷ []) $ fjoin ! $
+      move ! (5 ∷ 1 ∷ []) $ fjoin ! $ move ! (1 ∷ 0 ∷ []) $ fjoin ! $ move ! (1 ∷ 0 ∷ []) $ fjoin ! $ move ! (1 ∷ 0 ∷ []) $ fjoin ! $ move ! (1 ∷ 0 ∷ []) $
+      fjoin ! $
       owned ! St.the-row (Is St.the-row) (LL.makes St.the-type St′.the-plain 𝓤 H A) d _ d-is $ fjoin ! $ done !
 
-  module _ (C : Calls 𝓤 H) (Λ : Loops 𝓤 H) (fm : FmC 𝓤 H (W .laws) C) (known-front : Triple 𝓤 (C #form·front-no) (Front 𝓤 H A mem run)) (known : Triple 𝓤 (C #hands·hand-after) (Under 𝓤 H A mem run)) where
+  module _ (C : Calls 𝓤 H) (Λ : Loops 𝓤 H) (fm : FmC 𝓤 H (W .laws) C) (known-front : Triple 𝓤 (C #form·front-no) (Front 𝓤 H A mem run))
+      (known : Triple 𝓤 (C #hands·hand-after) (Under 𝓤 H A mem run)) where
     walk : Is B₀ s₀ (v s₀ ∷ []) → Is B₁ s₁ (v s₁ ∷ []) → Is B₂ s₂ (v s₂ ∷ []) → Is B₃ s₃ (v s₃ ∷ []) →
         ent 𝓤 (onEntry 𝓤 H A hand-out-table.signature κs qs args vals) (WpFn 𝓤 H C Λ code.function (mach ∷ v s₀ ∷ v s₁ ∷ v s₂ ∷ v s₃ ∷ s ∷ []) Post)
     walk p₀ p₁ p₂ p₃ =
         qed W (raw (onEntry 𝓤 H A hand-out-table.signature κs qs args vals) ∷ []) ∵ enter ! C Λ code.function (mach ∷ v s₀ ∷ v s₁ ∷ v s₂ ∷ v s₃ ∷ s ∷ []) _ $
-        alloc1 ! (λ l₀. alloc1 ! (λ l₁. alloc1 ! (λ l₂. alloc1 ! (λ l₃. alloc1 ! (λ l₄. alloc1 ! (λ l₅. alloc1 ! (λ l₆. alloc1 ! (λ l₇. alloc1 ! (λ l₈. alloc1 ! (λ l₉. alloc1 ! (λ l₁₀. alloc0 ! $ params1 ! $
-        pass1 ! (init ! 18 refl (LL.lawful St.the-type St′.the-laws 𝓤 H A W .typed d _ d-is .0)) $ pass1 ! (init ! 16 refl (shr-slice-lawful 𝓤 H A W (named 0) κ₀ u8 .typed s₀ (v s₀ ∷ []) p₀ .0)) $
-        pass1 ! (init ! 14 refl (shr-slice-lawful 𝓤 H A W (named 1) κ₁ u8 .typed s₁ (v s₁ ∷ []) p₁ .0)) $ pass1 ! (init ! 12 refl (shr-slice-lawful 𝓤 H A W (named 2) κ₂ u8 .typed s₂ (v s₂ ∷ []) p₂ .0)) $
-        pass1 ! (init ! 10 refl (shr-slice-lawful 𝓤 H A W (named 3) κ₃ u8 .typed s₃ (v s₃ ∷ []) p₃ .0)) $ pass1 ! (init ! 8 refl (tt, (tt, (record { fits = room .0 }, tt)))) $ pass0 ! $
+        alloc1 ! (λ l₀. alloc1 ! (λ l₁. alloc1 ! (λ l₂. alloc1 !
+        (λ l₃. alloc1 ! (λ l₄. alloc1 ! (λ l₅. alloc1 ! (λ l₆. alloc1 ! (λ l₇. alloc1 ! (λ l₈. alloc1 ! (λ l₉. alloc1 ! (λ l₁₀. alloc0 ! $ params1 ! $
+        pass1 ! (init ! 18 refl (LL.lawful St.the-type St′.the-laws 𝓤 H A W .typed d _ d-is .0)) $
+        pass1 ! (init ! 16 refl (shr-slice-lawful 𝓤 H A W (named 0) κ₀ u8 .typed s₀ (v s₀ ∷ []) p₀ .0)) $
+        pass1 ! (init ! 14 refl (shr-slice-lawful 𝓤 H A W (named 1) κ₁ u8 .typed s₁ (v s₁ ∷ []) p₁ .0)) $
+        pass1 ! (init ! 12 refl (shr-slice-lawful 𝓤 H A W (named 2) κ₂ u8 .typed s₂ (v s₂ ∷ []) p₂ .0)) $
+        pass1 ! (init ! 10 refl (shr-slice-lawful 𝓤 H A W (named 3) κ₃ u8 .typed s₃ (v s₃ ∷ []) p₃ .0)) $
+        pass1 ! (init ! 8 refl (tt, (tt, (record { fits = room .0 }, tt)))) $ pass0 ! $
         -- [_10; …; _9; …; down to room for _0; …; what is had on entry]
         move ! (22 ∷ []) $ use1 W (raw (Front 𝓤 H A mem run .pre to-front) ⊛ (fifth ⊛ (‵ Lent ⊛ ‵ Bufs))) apart $ split ! $
-        calls-at ! fm (Front 𝓤 H A mem run) known-front to-front (and-then ! (load ! (from ! (stop !)) (look ! 20 refl)) (and-then ! (load ! (from ! (stop !)) (look ! 18 refl)) (and-then ! (load ! (from ! (stop !)) (look ! 16 refl)) (and-then ! (load ! (from ! (stop !)) (look ! 14 refl)) (and-then ! (load ! (from ! (stop !)) (look ! 12 refl)) (no-more !)))))) (λ u.
-        use1 W (later (some (λ (r : ℕ). (four ⊛ ‵ (u8 .own r (u ∷ []))) ⊛ raw (ensured 𝓤 H A front.ended (front.clauses 𝓤 H A mem run) κs₄ args₅ tt r)))) (id⊢ 𝓤 _) $ await ! tt $ pick ! (λ r.
-        split ! $ move ! (1 ∷ []) $ use1 W (raw (fact 𝓤 (r ≡ k))) (front-said r) $ heard ! (r ≡ k) (λ e. split ! $ move ! (1 ∷ []) $ facts ! u8 (Is u8) (shows 𝓤 H A u8) r (u ∷ []) (λ is.
+        calls-at ! fm (Front 𝓤 H A mem run) known-front to-front
+        (and-then ! (load ! (from ! (stop !)) (look ! 20 refl))
+        (and-then ! (load ! (from ! (stop !)) (look ! 18 refl))
+        (and-then ! (load ! (from ! (stop !)) (look ! 16 refl))
+        (and-then ! (load ! (from ! (stop !)) (look ! 14 refl)) (and-then ! (load ! (from ! (stop !)) (look ! 12 refl)) (no-more !)))))) (λ u.
+        use1 W (later (some (λ (r : ℕ). (four ⊛ ‵ (u8 .own r (u ∷ []))) ⊛ raw (ensured 𝓤 H A front.ended (front.clauses 𝓤 H A mem run) κs₄ args₅ tt r))))
+        (id⊢ 𝓤 _) $ await ! tt $ pick ! (λ r.
+        split ! $ move ! (1 ∷ []) $ use1 W (raw (fact 𝓤 (r ≡ k))) (front-said r) $ heard ! (r ≡ k) (λ e. split ! $ move ! (1 ∷ []) $
+        facts ! u8 (Is u8) (shows 𝓤 H A u8) r (u ∷ []) (λ is.
         -- [four tokens; the fifth, the slice and the buffers; _10; …; _9; …; down to room for _0; …]
         let fits : k < 2 ^ 8 = subst (λ (j : ℕ). j < 2 ^ 8) e (is .1) in
-        land ! (from ! (stop !)) (init ! 8 refl (uint-lawful 𝓤 H A W w8 .typed r _ is .0)) $ rewrite ! 8 (λ (j : Val). ‵ (fat fullShare (tyInt w8) l₇ 0 j)) (ap only (is .0) ∙ ap (vint w8) e) refl $
-        assigns ! (of-opd ! (load ! (from ! (fld ! refl (stop !))) (look-in ! 20 (sub ! 5 refl (whole !))))) (from ! (stop !)) (init ! 6 refl (LL.lawful T.the-type T′.the-laws 𝓤 H A W .typed tb _ tb-is .0)) $
+        land ! (from ! (stop !)) (init ! 8 refl (uint-lawful 𝓤 H A W w8 .typed r _ is .0)) $
+        rewrite ! 8 (λ (j : Val). ‵ (fat fullShare (tyInt w8) l₇ 0 j)) (ap only (is .0) ∙ ap (vint w8) e) refl $
+        assigns ! (of-opd ! (load ! (from ! (fld ! refl (stop !))) (look-in ! 20 (sub ! 5 refl (whole !))))) (from ! (stop !))
+        (init ! 6 refl (LL.lawful T.the-type T′.the-laws 𝓤 H A W .typed tb _ tb-is .0)) $
         assigns ! (addr ! (from ! (fld ! refl (hop ! (look-in ! 10 (sub ! 0 refl (whole !))) (stop !))))) (from ! (stop !)) (init ! 4 refl (tt, tt)) $
-        assigns ! (agg ! (and-then ! (load ! (from ! (stop !)) (look ! 4 refl)) (and-then ! (load ! (from ! (fld ! refl (stop !))) (look-in ! 10 (sub ! 1 refl (whole !)))) (no-more !)))) (from ! (stop !)) (init ! 2 refl (tt, (tt, (record { fits = room .0 }, tt)))) $
+        assigns ! (agg ! (and-then ! (load ! (from ! (stop !)) (look ! 4 refl))
+        (and-then ! (load ! (from ! (fld ! refl (stop !))) (look-in ! 10 (sub ! 1 refl (whole !)))) (no-more !)))) (from ! (stop !))
+        (init ! 2 refl (tt, (tt, (record { fits = room .0 }, tt)))) $
         move ! (1 ∷ []) $ split ! $ move ! (1 ∷ []) $ split ! $ move ! (2 ∷ 0 ∷ []) $ use2 W (raw (Under 𝓤 H A mem run .pre (to fits))) (goes fits) $
         -- [what is asked; the buffers; four tokens; _10; …; _9; …; down to room for _0; …]
-        calls-at ! fm (Under 𝓤 H A mem run) known (to fits) (and-then ! (load ! (from ! (stop !)) (look ! 7 refl)) (and-then ! (load ! (from ! (stop !)) (look ! 3 refl)) (and-then ! (load ! (from ! (stop !)) (look ! 9 refl)) (no-more !)))) (λ w.
-        use1 W (later (some (λ (a : Answer). (fifth ⊛ ‵ (S.the-row .own a (w ∷ []))) ⊛ raw (ensured 𝓤 H A below.ended (below.clauses 𝓤 H A mem run) (κ₄, tt) (tb, (x, (k, tt))) tt a)))) (id⊢ 𝓤 _) $ await ! tt $ pick ! (λ a.
+        calls-at ! fm (Under 𝓤 H A mem run) known (to fits)
+        (and-then ! (load ! (from ! (stop !)) (look ! 7 refl))
+        (and-then ! (load ! (from ! (stop !)) (look ! 3 refl)) (and-then ! (load ! (from ! (stop !)) (look ! 9 refl)) (no-more !)))) (λ w.
+        use1 W (later (some (λ (a : Answer). (fifth ⊛ ‵ (S.the-row .own a (w ∷ []))) ⊛ raw
+        (ensured 𝓤 H A below.ended (below.clauses 𝓤 H A mem run) (κ₄, tt) (tb, (x, (k, tt))) tt a)))) (id⊢ 𝓤 _) $ await ! tt $ pick ! (λ a.
         -- what the callee ensures, at some last list
-        split ! $ move ! (1 ∷ []) $ use1 W (some (λ (zs : Unit {0} × (List Entry × (Unit {0} × Unit {0}))). ‵ (lasts below.ended (κ₄, tt) (tb, (x, (k, tt))) zs) ⊛ raw (fact 𝓤 (Said a (zs .1 .0))))) (id⊢ 𝓤 _) $ pick ! (λ zs.
+        split ! $ move ! (1 ∷ []) $ use1 W (some (λ (zs : Unit {0} × (List Entry × (Unit {0} × Unit {0}))). ‵
+        (lasts below.ended (κ₄, tt) (tb, (x, (k, tt))) zs) ⊛ raw (fact 𝓤 (Said a (zs .1 .0))))) (id⊢ 𝓤 _) $ pick ! (λ zs.
         split ! $ move ! (1 ∷ []) $ heard ! (Said a (zs .1 .0)) (λ e′. fsplit ! $ drop ! $ fsplit ! $ fsplit ! $ move ! (1 ∷ []) $ feqL ! (λ l.
         -- [the last list; true; the fifth token and the answer; the buffers; four tokens; _10; …]
         move ! (2 ∷ []) $ split ! $ move ! (1 ∷ []) $ peeks ! S.the-row (Is S.the-row) (shows 𝓤 H A S.the-row) a (w ∷ []) (λ is′.
         -- [the answer; the fifth token; the last list; true; the buffers; four tokens; _10; …; _9; …; down to room for _0; …]
         land ! (from ! (stop !)) (init ! 26 refl (EL.lawful S.the-type S′.the-laws 𝓤 H A W tt .typed a _ is′ .0)) $
-        returns ! (look ! 26 refl) $ forget ! 6 refl $ forget ! 8 refl $ forget ! 10 refl $ forget ! 12 refl $ forget ! 14 refl $ forget ! 16 refl $ forget ! 18 refl $ forget ! 20 refl $ forget ! 22 refl $ forget ! 24 refl $ forget ! 26 refl $
-        move ! (26 ∷ 27 ∷ []) $ free1 ! $ move ! (24 ∷ 25 ∷ []) $ free1 ! $ move ! (22 ∷ 23 ∷ []) $ free1 ! $ move ! (20 ∷ 21 ∷ []) $ free1 ! $ move ! (18 ∷ 19 ∷ []) $ free1 ! $ move ! (16 ∷ 17 ∷ []) $ free1 ! $ move ! (14 ∷ 15 ∷ []) $ free1 ! $ move ! (12 ∷ 13 ∷ []) $ free1 ! $ move ! (10 ∷ 11 ∷ []) $ free1 ! $ move ! (8 ∷ 9 ∷ []) $ free1 ! $ move ! (6 ∷ 7 ∷ []) $ free1 ! $ free0 ! $
+        returns ! (look ! 26 refl) $ forget ! 6 refl $ forget ! 8 refl $ forget ! 10 refl $ forget ! 12 refl $ forget ! 14 refl $ forget ! 16 refl $
+        forget ! 18 refl $ forget ! 20 refl $ forget ! 22 refl $ forget ! 24 refl $ forget ! 26 refl $
+        move ! (26 ∷ 27 ∷ []) $ free1 ! $ move ! (24 ∷ 25 ∷ []) $ free1 ! $ move ! (22 ∷ 23 ∷ []) $ free1 ! $ move ! (20 ∷ 21 ∷ []) $ free1 ! $
+        move ! (18 ∷ 19 ∷ []) $ free1 ! $ move ! (16 ∷ 17 ∷ []) $ free1 ! $ move ! (14 ∷ 15 ∷ []) $ free1 ! $ move ! (12 ∷ 13 ∷ []) $ free1 ! $
+        move ! (10 ∷ 11 ∷ []) $ free1 ! $ move ! (8 ∷ 9 ∷ []) $ free1 ! $ move ! (6 ∷ 7 ∷ []) $ free1 ! $ free0 ! $
         keep ! (5 ∷ 1 ∷ 4 ∷ 2 ∷ 0 ∷ []) $ by ! (exits a w (zs .1 .0) e′ l))))))))))))))))))))))
 
 module _ {M : Type 1} (𝓤 : URA M) (H : Heap 𝓤) (A : Atoms 𝓤) (W : Given 𝓤 H A) (mem : Memory → SProp 𝓤) (run : Routine → Fun 𝓤) (𝓣 : Tables 𝓤 H)
@@ -298,7 +329,8 @@ module _ {M : Type 1} (𝓤 : URA M) (H : Heap 𝓤) (A : Atoms 𝓤) (W : Given
       ))
       (λ κs qs bounds a g are. via 𝓤 _ (fst∗ 𝓤 _ (emp 𝓤))
       (let x = a .1 .1 .1 .1 .1 .0 in
-      walk 𝓤 H A W mem run (κs .0) (κs .1 .0) (κs .1 .1 .0) (κs .1 .1 .1 .0) (κs .1 .1 .1 .1 .0) (qs .0) (qs .1 .0) (qs .1 .1 .0) (qs .1 .1 .1 .0) (qs .1 .1 .1 .1 .0)
+      walk 𝓤 H A W mem run (κs .0) (κs .1 .0) (κs .1 .1 .0) (κs .1 .1 .1 .0) (κs .1 .1 .1 .1 .0) (qs .0) (qs .1 .0) (qs .1 .1 .0) (qs .1 .1 .1 .0)
+      (qs .1 .1 .1 .1 .0)
       (a .1 .0) (a .1 .1 .0) (a .1 .1 .1 .0) (a .1 .1 .1 .1 .0) (x .ptr .0) (x .ptr .1) (x .name) (x .now) (a .0) (are .0) (are .1 .1 .1 .1 .1 .0 .0 .1)
       (𝓣 .C) (𝓣 .Λ) (fmOf 𝓤 H (W .laws) 𝓣) known-front known (are .1 .0) (are .1 .1 .0) (are .1 .1 .1 .0) (are .1 .1 .1 .1 .0)))
 
@@ -310,7 +342,10 @@ module _ {M : Type 1} (𝓤 : URA M) (H : Heap 𝓤) (A : Atoms 𝓤) (W : Given
           goes-none-slice 𝓤 H A W 5 (0 ∷ []) tt (plain (λ _. u8)) yes,
           (
             goes-none-slice 𝓤 H A W 5 (1 ∷ []) tt (plain (λ _. u8)) yes,
-            (goes-none-slice 𝓤 H A W 5 (2 ∷ []) tt (plain (λ _. u8)) yes, (goes-none-slice 𝓤 H A W 5 (3 ∷ []) tt (plain (λ _. u8)) yes, (goes-gave-slice 𝓤 H A W 5 4 tt (plain (λ _. E.the-row)), tt))),
+            (
+              goes-none-slice 𝓤 H A W 5 (2 ∷ []) tt (plain (λ _. u8)) yes,
+              (goes-none-slice 𝓤 H A W 5 (3 ∷ []) tt (plain (λ _. u8)) yes, (goes-gave-slice 𝓤 H A W 5 4 tt (plain (λ _. E.the-row)), tt)),
+            ),
           ),
         ),
       )

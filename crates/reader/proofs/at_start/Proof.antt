@@ -1,4 +1,5 @@
--- `reader::at_start` meets its contract: a walk of its MIR, by hand. A `LogReader` is made of the slice and the length passed and of the place that `wal::start_of` gives. All that the proof knows of `wal::start_of` is that it meets its contract.
+-- `reader::at_start` meets its contract: a walk of its MIR, by hand. A `LogReader` is made of the slice and the length passed and of the place that
+-- `wal::start_of` gives. All that the proof knows of `wal::start_of` is that it meets its contract.
 -- A `&[u8]` is Copy, so what it owns is had twice before the call and twice after it: for the callee, for log at exit, and inside the result.
 -- Assumes nothing.
 use mathlib.Core.Path.{_≡_, refl, ap, subst, _∙_}
@@ -61,7 +62,8 @@ module _ {M : Type 1} (𝓤 : URA M) (H : Heap 𝓤) (A : Atoms 𝓤) (mem : Mem
   abbrev StartOf : Contract 𝓤
   StartOf = tripleOf 𝓤 H A start-of.signature (start-of.spec 𝓤 H A mem run)
 
-module _ {M : Type 1} (𝓤 : URA M) (H : Heap 𝓤) (A : Atoms 𝓤) (W : Given 𝓤 H A) (mem : Memory → SProp 𝓤) (run : Routine → Fun 𝓤) (κ : Lft) (q : Share) (s : RefT (List ℕ)) (n : ℕ) (fits : n < 2 ^ 64) where
+module _ {M : Type 1} (𝓤 : URA M) (H : Heap 𝓤) (A : Atoms 𝓤) (W : Given 𝓤 H A) (mem : Memory → SProp 𝓤)
+    (run : Routine → Fun 𝓤) (κ : Lft) (q : Share) (s : RefT (List ℕ)) (n : ℕ) (fits : n < 2 ^ 64) where
   -- the machine value that s has
   abbrev v : Val
   v = sliceVal (s .ptr) (length (s .now))
@@ -95,7 +97,9 @@ module _ {M : Type 1} (𝓤 : URA M) (H : Heap 𝓤) (A : Atoms 𝓤) (W : Given
   goes-start-of =
       qed W ((‵ (flft κ q) ⊛ ‵ ftrue) ∷ ‵ (owns (ShrSlice (named 0) κ u8 ∷ usize ∷ []) args vals) ∷ []) ∵
       move ! (1 ∷ []) $ fsplit ! $ use1 W (‵ Own ⊛ ‵ Own) (shr-slice-copy 𝓤 H A W (named 0) κ u8 .twice s (v ∷ [])) $ split ! $
-      move ! (0 ∷ 2 ∷ []) $ fjoin ! $ move ! (2 ∷ 0 ∷ []) $ use2 W (raw (StartOf 𝓤 H A mem run .pre to-start-of)) (qed W ((‵ (flft κ q) ⊛ ‵ ftrue) ∷ ‵ (owns (ShrSlice (named 0) κ u8 ∷ usize ∷ []) args vals) ∷ []) ∵ join ! $ frame ! $ done !) $ frame ! $ done !
+      move ! (0 ∷ 2 ∷ []) $ fjoin ! $ move ! (2 ∷ 0 ∷ []) $
+      use2 W (raw (StartOf 𝓤 H A mem run .pre to-start-of)) (qed W ((‵ (flft κ q) ⊛ ‵ ftrue) ∷ ‵ (owns (ShrSlice (named 0) κ u8 ∷ usize ∷ []) args vals) ∷ []) ∵
+      join ! $ frame ! $ done !) $ frame ! $ done !
 
   start-of-said : (r : ℕ) → ent 𝓤 (ensured 𝓤 H A start-of.ended (start-of.clauses 𝓤 H A mem run) (κ, tt) args tt r) (fact 𝓤 (r ≡ found))
   start-of-said r = exE 𝓤 _ (λ ws. snd∗ 𝓤 (sem 𝓤 H A (lasts start-of.ended (κ, tt) args ws)) (fact 𝓤 (r ≡ found)))
@@ -103,39 +107,58 @@ module _ {M : Type 1} (𝓤 : URA M) (H : Heap 𝓤) (A : Atoms 𝓤) (W : Given
   exits : found < 2 ^ 64 → ent 𝓤 (⋆ 𝓤 H A ((‵ (flft κ q) ⊛ ‵ ftrue) ∷ ‵ Own ∷ [])) (Post (T′.lowered made))
   exits ok =
       qed W ((‵ (flft κ q) ⊛ ‵ ftrue) ∷ ‵ Own ∷ []) ∵
-      suffices ! _ (ends-at 𝓤 H A at-start.ended stayed (at-start.clauses 𝓤 H A mem run) W (((κ, tt), (q, tt), tt, args, vals), tt) (T′.lowered made) made (tt, (tt, tt)) (tt, (tt, tt))) $ says ! refl $
+      suffices ! _ (ends-at 𝓤 H A at-start.ended stayed (at-start.clauses 𝓤 H A mem run) W (((κ, tt), (q, tt), tt, args, vals), tt) (T′.lowered made) made
+      (tt, (tt, tt)) (tt, (tt, tt))) $ says ! refl $
       frame ! $ use1 W (‵ Own ⊛ ‵ Own) (shr-slice-copy 𝓤 H A W (named 0) κ u8 .twice s (v ∷ [])) $ split ! $
       nothing ! $ owned ! usize (Is usize) (uint-makes 𝓤 H A W w64) n _ (refl, fits) $ fjoin ! $ move ! (1 ∷ 0 ∷ []) $ fjoin ! $ frame ! $
       -- [what log owns]: what the fields own together, of it and of the numbers' facts, is what the struct owns
-      nothing ! $ owned ! usize (Is usize) (uint-makes 𝓤 H A W w64) found _ (refl, ok) $ fjoin ! $ owned ! usize (Is usize) (uint-makes 𝓤 H A W w64) n _ (refl, fits) $ fjoin ! $ move ! (1 ∷ 0 ∷ []) $ fjoin ! $ by ! (own-shut 𝓤 H A W (T.the-type α) (T′.the-laws α) (s, (n, (found, tt))))
+      nothing ! $ owned ! usize (Is usize) (uint-makes 𝓤 H A W w64) found _ (refl, ok) $ fjoin ! $
+      owned ! usize (Is usize) (uint-makes 𝓤 H A W w64) n _ (refl, fits) $ fjoin ! $ move ! (1 ∷ 0 ∷ []) $ fjoin ! $
+      by ! (own-shut 𝓤 H A W (T.the-type α) (T′.the-laws α) (s, (n, (found, tt))))
 
   module _ (C : Calls 𝓤 H) (Λ : Loops 𝓤 H) (fm : FmC 𝓤 H (W .laws) C) (known-start-of : Triple 𝓤 (C #wal·start-of) (StartOf 𝓤 H A mem run)) where
-    walk : Is (ShrSlice (named 0) κ u8) s (v ∷ []) → ent 𝓤 (onEntry 𝓤 H A at-start.signature (κ, tt) (q, tt) args vals) (WpFn 𝓤 H C Λ code.function (v ∷ vint w64 n ∷ []) Post)
+    walk : Is (ShrSlice (named 0) κ u8) s (v ∷ []) → ent 𝓤 (onEntry 𝓤 H A at-start.signature (κ, tt) (q, tt) args vals)
+        (WpFn 𝓤 H C Λ code.function (v ∷ vint w64 n ∷ []) Post)
     walk p =
         qed W (raw (onEntry 𝓤 H A at-start.signature (κ, tt) (q, tt) args vals) ∷ []) ∵ enter ! C Λ code.function (v ∷ vint w64 n ∷ []) _ $
-        alloc1 ! (λ l₀. alloc1 ! (λ l₁. alloc1 ! (λ l₂. alloc1 ! (λ l₃. alloc0 ! $ params1 ! $ pass1 ! (init ! 4 refl (shr-slice-lawful 𝓤 H A W (named 0) κ u8 .typed s (v ∷ []) p .0)) $ pass1 ! (init ! 2 refl (tt, record { fits = fits })) $ pass0 ! $
+        alloc1 ! (λ l₀. alloc1 ! (λ l₁. alloc1 ! (λ l₂. alloc1 ! (λ l₃. alloc0 ! $ params1 ! $
+        pass1 ! (init ! 4 refl (shr-slice-lawful 𝓤 H A W (named 0) κ u8 .typed s (v ∷ []) p .0)) $ pass1 ! (init ! 2 refl (tt, record { fits = fits })) $
+        pass0 ! $
         move ! (8 ∷ []) $ use1 W (raw (StartOf 𝓤 H A mem run .pre to-start-of) ⊛ ‵ Own) goes-start-of $ split ! $
-        calls-at ! fm (StartOf 𝓤 H A mem run) known-start-of to-start-of (and-then ! (load ! (from ! (stop !)) (look ! 6 refl)) (and-then ! (load ! (from ! (stop !)) (look ! 4 refl)) (no-more !))) (λ u.
-        use1 W (later (some (λ (r : ℕ). ((‵ (flft κ q) ⊛ ‵ ftrue) ⊛ ‵ (usize .own r (u ∷ []))) ⊛ raw (ensured 𝓤 H A start-of.ended (start-of.clauses 𝓤 H A mem run) (κ, tt) args tt r)))) (id⊢ 𝓤 _) $ await ! tt $ pick ! (λ r.
-        split ! $ move ! (1 ∷ []) $ use1 W (raw (fact 𝓤 (r ≡ found))) (start-of-said r) $ heard ! (r ≡ found) (λ e. split ! $ move ! (1 ∷ []) $ facts ! usize (Is usize) (shows 𝓤 H A usize) r (u ∷ []) (λ is.
+        calls-at ! fm (StartOf 𝓤 H A mem run) known-start-of to-start-of
+        (and-then ! (load ! (from ! (stop !)) (look ! 6 refl)) (and-then ! (load ! (from ! (stop !)) (look ! 4 refl)) (no-more !))) (λ u.
+        use1 W (later (some (λ (r : ℕ). ((‵ (flft κ q) ⊛ ‵ ftrue) ⊛ ‵ (usize .own r (u ∷ []))) ⊛ raw
+        (ensured 𝓤 H A start-of.ended (start-of.clauses 𝓤 H A mem run) (κ, tt) args tt r)))) (id⊢ 𝓤 _) $ await ! tt $ pick ! (λ r.
+        split ! $ move ! (1 ∷ []) $ use1 W (raw (fact 𝓤 (r ≡ found))) (start-of-said r) $ heard ! (r ≡ found) (λ e. split ! $ move ! (1 ∷ []) $
+        facts ! usize (Is usize) (shows 𝓤 H A usize) r (u ∷ []) (λ is.
         -- [the token; what s owns; room for _3; …; _2; …; _1; …; room for _0; …]
         let ok : found < 2 ^ 64 = subst (λ (k : ℕ). k < 2 ^ 64) e (is .1) in
-        land ! (from ! (stop !)) (init ! 2 refl (uint-lawful 𝓤 H A W w64 .typed r _ is .0)) $ rewrite ! 2 (λ (v : Val). ‵ (fat fullShare (tyInt w64) l₃ 0 v)) (ap only (is .0) ∙ ap (vint w64) e) refl $
-        assigns ! (agg ! (and-then ! (load ! (from ! (stop !)) (look ! 6 refl)) (and-then ! (load ! (from ! (stop !)) (look ! 4 refl)) (and-then ! (load ! (from ! (stop !)) (look ! 2 refl)) (no-more !))))) (from ! (stop !))
+        land ! (from ! (stop !)) (init ! 2 refl (uint-lawful 𝓤 H A W w64 .typed r _ is .0)) $
+        rewrite ! 2 (λ (v : Val). ‵ (fat fullShare (tyInt w64) l₃ 0 v)) (ap only (is .0) ∙ ap (vint w64) e) refl $
+        assigns ! (agg ! (and-then ! (load ! (from ! (stop !)) (look ! 6 refl))
+        (and-then ! (load ! (from ! (stop !)) (look ! 4 refl)) (and-then ! (load ! (from ! (stop !)) (look ! 2 refl)) (no-more !))))) (from ! (stop !))
         (init ! 8 refl (tt, (shr-slice-lawful 𝓤 H A W (named 0) κ u8 .typed s (v ∷ []) p .0 .1, (record { fits = fits }, (record { fits = ok }, tt))))) $
-        returns ! (look ! 8 refl) $ forget ! 2 refl $ forget ! 4 refl $ forget ! 6 refl $ forget ! 8 refl $ move ! (8 ∷ 9 ∷ []) $ free1 ! $ move ! (6 ∷ 7 ∷ []) $ free1 ! $ move ! (4 ∷ 5 ∷ []) $ free1 ! $ move ! (2 ∷ 3 ∷ []) $ free1 ! $ free0 ! $
+        returns ! (look ! 8 refl) $ forget ! 2 refl $ forget ! 4 refl $ forget ! 6 refl $ forget ! 8 refl $ move ! (8 ∷ 9 ∷ []) $ free1 ! $
+        move ! (6 ∷ 7 ∷ []) $ free1 ! $ move ! (4 ∷ 5 ∷ []) $ free1 ! $ move ! (2 ∷ 3 ∷ []) $ free1 ! $ free0 ! $
         by ! (exits ok)))))))))
 
 module _ {M : Type 1} (𝓤 : URA M) (H : Heap 𝓤) (A : Atoms 𝓤) (W : Given 𝓤 H A) (mem : Memory → SProp 𝓤) (run : Routine → Fun 𝓤) where
   at-start-walks : (C : Calls 𝓤 H) (Λ : Loops 𝓤 H) → FmC 𝓤 H (W .laws) C → Triple 𝓤 (C #wal·start-of) (StartOf 𝓤 H A mem run)
       → Walks 𝓤 H A at-start.ended stayed (WpFn 𝓤 H C Λ code.function) (at-start.clauses 𝓤 H A mem run)
-  at-start-walks C Λ fm known-start-of = walked 𝓤 H A at-start.ended stayed (at-start.clauses 𝓤 H A mem run) (WpFn 𝓤 H C Λ code.function) (λ κs. (slice-vals, (uint-vals w64, tt))) (λ κs. (shr-slice-tells (named 0) (κs .0) u8, (uint-tells w64, tt)))
+  at-start-walks C Λ fm known-start-of =
+      walked 𝓤 H A at-start.ended stayed (at-start.clauses 𝓤 H A mem run) (WpFn 𝓤 H C Λ code.function) (λ κs. (slice-vals, (uint-vals w64, tt)))
+      (λ κs. (shr-slice-tells (named 0) (κs .0) u8, (uint-tells w64, tt)))
       (λ κs qs bounds a g are. via 𝓤 _ (fst∗ 𝓤 _ (emp 𝓤)) (walk 𝓤 H A W mem run (κs .0) (qs .0) (a .0) (a .1 .0) (are .1 .0 .1) C Λ fm known-start-of (are .0)))
 
 at-start-meets : {M : Type 1} (𝓤 : URA M) (H : Heap 𝓤) (A : Atoms 𝓤) (W : Given 𝓤 H A) (mem : Memory → SProp 𝓤) (run : Routine → Fun 𝓤) (𝓣 : Tables 𝓤 H)
     → Triple 𝓤 (𝓣 .C #wal·start-of) (StartOf 𝓤 H A mem run)
     → Meets 𝓤 H A at-start.signature (WpFn 𝓤 H (𝓣 .C) (𝓣 .Λ) code.function) (at-start.spec 𝓤 H A mem run)
-at-start-meets 𝓤 H A W mem run 𝓣 known-start-of = walk-meets 𝓤 H A at-start.ended stayed W (goes-none-slice 𝓤 H A W 1 (0 ∷ []) tt (plain (λ _. u8)) yes, (goes-none 𝓤 H A W 1 (λ _. usize) yes (λ κs x f. refl), tt)) (at-start.clauses 𝓤 H A mem run) (WpFn 𝓤 H (𝓣 .C) (𝓣 .Λ) code.function) (WpFn-mono 𝓤 H (W .laws) 𝓣 code.function)
+at-start-meets 𝓤 H A W mem run 𝓣 known-start-of =
+    walk-meets 𝓤 H A at-start.ended stayed W (
+      goes-none-slice 𝓤 H A W 1 (0 ∷ []) tt (plain (λ _. u8)) yes,
+      (goes-none 𝓤 H A W 1 (λ _. usize) yes (λ κs x f. refl), tt),
+    ) (at-start.clauses 𝓤 H A mem run) (WpFn 𝓤 H (𝓣 .C) (𝓣 .Λ) code.function)
+    (WpFn-mono 𝓤 H (W .laws) 𝓣 code.function)
     (at-start-walks 𝓤 H A W mem run (𝓣 .C) (𝓣 .Λ) (fmOf 𝓤 H (W .laws) 𝓣) known-start-of)
 
 pub at-start-spec : {M : Type 1} → stated.statement M
