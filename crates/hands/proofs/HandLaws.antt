@@ -1,6 +1,8 @@
 -- Laws of a hand-out: its number, test by test; how many entries go; and the list of a loop that lays the first entries of one list over another, one at a
 -- time.
---     upTo es xs i     the first i of es, then xs from i on.        upTo-length      it is as long as xs.        upTo-next    with es[i] stored at i it is upTo at i + 1
+--     upTo es xs i     the first i of es, then xs from i on
+--     upTo-length      it is as long as xs
+--     upTo-next        with es[i] stored at i it is upTo at i + 1
 -- Assumes nothing.
 use mathlib.Core.Path.{_≡_, refl, ap, _∙_}
 use Prim.Native.Nat.{ℕ, zero, suc, _≤_, _<_}

@@ -292,8 +292,8 @@ module _ {M : Type 1} (𝓤 : URA M) (H : Heap 𝓤) (A : Atoms 𝓤) (W : Given
         calls-at ! fm (Under 𝓤 H A mem run) known (to fits)
         (and-then ! (load ! (from ! (stop !)) (look ! 7 refl))
         (and-then ! (load ! (from ! (stop !)) (look ! 3 refl)) (and-then ! (load ! (from ! (stop !)) (look ! 9 refl)) (no-more !)))) (λ w.
-        use1 W (later (some (λ (a : Answer). (fifth ⊛ ‵ (S.the-row .own a (w ∷ []))) ⊛ raw
-        (ensured 𝓤 H A below.ended (below.clauses 𝓤 H A mem run) (κ₄, tt) (tb, (x, (k, tt))) tt a)))) (id⊢ 𝓤 _) $ await ! tt $ pick ! (λ a.
+        use1 W (later (some (λ (a : Answer). (fifth ⊛ ‵ (S.the-row .own a (w ∷ []))) ⊛
+        raw (ensured 𝓤 H A below.ended (below.clauses 𝓤 H A mem run) (κ₄, tt) (tb, (x, (k, tt))) tt a)))) (id⊢ 𝓤 _) $ await ! tt $ pick ! (λ a.
         -- what the callee ensures, at some last list
         split ! $ move ! (1 ∷ []) $ use1 W (some (λ (zs : Unit {0} × (List Entry × (Unit {0} × Unit {0}))). ‵
         (lasts below.ended (κ₄, tt) (tb, (x, (k, tt))) zs) ⊛ raw (fact 𝓤 (Said a (zs .1 .0))))) (id⊢ 𝓤 _) $ pick ! (λ zs.

@@ -216,11 +216,11 @@ module _ {M : Type 1} (𝓤 : URA M) (H : Heap 𝓤) (A : Atoms 𝓤) (W : Given
 
   -- ---- from what is had at exit to the `post` of `walkOf`
   exits : (r : Answer) (v : Val) → r ≡ replyOf 256 tb (length xs) before
-      → ent 𝓤 (⋆ 𝓤 H A (‵ (S.the-row .own r (v ∷ [])) ∷ ‵ (fobs γ (codedHoleys R .code (heres R (upto n)))) ∷ ‵ (fbor κ (Held R (length (upto n)) b o γ)) ∷ ‵
-      (flft κ q) ∷ [])) (Post v)
+      → ent 𝓤 (⋆ 𝓤 H A (‵ (S.the-row .own r (v ∷ [])) ∷ ‵ (fobs γ (codedHoleys R .code (heres R (upto n)))) ∷ ‵ (fbor κ (Held R (length (upto n)) b o γ)) ∷
+      ‵ (flft κ q) ∷ [])) (Post v)
   exits r v e =
-      qed W (‵ (S.the-row .own r (v ∷ [])) ∷ ‵ (fobs γ (codedHoleys R .code (heres R (upto n)))) ∷ ‵ (fbor κ (Held R (length (upto n)) b o γ)) ∷ ‵
-      (flft κ q) ∷ []) ∵
+      qed W (‵ (S.the-row .own r (v ∷ [])) ∷ ‵ (fobs γ (codedHoleys R .code (heres R (upto n)))) ∷ ‵ (fbor κ (Held R (length (upto n)) b o γ)) ∷
+      ‵ (flft κ q) ∷ []) ∵
       suffices ! _ (ends-at 𝓤 H A hand-after.ended stayed (hand-after.clauses 𝓤 H A mem run) W (((κ, tt), (q, tt), tt, args, vals), tt) v r
       (tt, (upto n, (tt, tt))) (tt, (upto-length n (le-refl n), (tt, tt)))) $
       says ! (ap (λ (a : Answer). handedAs a (upto n)) e ∙ hand-done 256 tb count-is xs before) $
@@ -248,22 +248,22 @@ module _ {M : Type 1} (𝓤 : URA M) (H : Heap 𝓤) (A : Atoms 𝓤) (W : Given
           (S′.mir, l₀) ∷ (T′.mir, l₁) ∷ (slice, l₂) ∷ (byte, l₃) ∷ (word, l₄) ∷ (word, l₅) ∷ (word, l₆) ∷ (tyBool, l₇) ∷ (E′.mir, l₈) ∷ (word, l₉) ∷
           (tyPtr, l₁₀) ∷ []
 
-      -- what no turn touches: the parameters' locals, the number of entries to hand out, the slice's length, room for the answer, the open borrow, and what
-      -- frees each local
+      -- what no turn touches: the parameters' locals, the number of entries to hand out, the slice's length, room for the answer, the open borrow, what frees
+      -- each local, and the number of the tests before
       abbrev Frame : List (Item 𝓤)
       Frame =
-          ‵ (fat fullShare T′.mir l₁ 0 mach) ∷ ‵ (fat fullShare slice l₂ 0 s) ∷ ‵ (fat fullShare word l₄ 0 (vint w64 n)) ∷ ‵
-          (fat fullShare word l₆ 0 (vint w64 (length xs))) ∷ ‵ (froom S′.mir l₀ 0)
+          ‵ (fat fullShare T′.mir l₁ 0 mach) ∷ ‵ (fat fullShare slice l₂ 0 s) ∷ ‵ (fat fullShare word l₄ 0 (vint w64 n)) ∷
+          ‵ (fat fullShare word l₆ 0 (vint w64 (length xs))) ∷ ‵ (froom S′.mir l₀ 0)
           ∷ ‵ (fobor κ q (Held R (length xs) b o γ)) ∷ ‵ (fobs γ (codedHoleys R .code (heres R xs))) ∷ ‵ (fauth γ (codedHoleys R .code (heres R xs)))
-          ∷ ‵ (fdies S′.mir l₀) ∷ ‵ (fdies T′.mir l₁) ∷ ‵ (fdies slice l₂) ∷ ‵ (fdies word l₄) ∷ ‵ (fdies word l₅) ∷ ‵ (fdies word l₆) ∷ ‵ (fdies tyBool l₇) ∷ ‵
-          (fdies E′.mir l₈) ∷ ‵ (fdies word l₉) ∷ ‵ (fdies tyPtr l₁₀)
+          ∷ ‵ (fdies S′.mir l₀) ∷ ‵ (fdies T′.mir l₁) ∷ ‵ (fdies slice l₂) ∷ ‵ (fdies word l₄) ∷ ‵ (fdies word l₅) ∷ ‵ (fdies word l₆) ∷ ‵ (fdies tyBool l₇) ∷
+          ‵ (fdies E′.mir l₈) ∷ ‵ (fdies word l₉) ∷ ‵ (fdies tyPtr l₁₀)
           ∷ ‵ (fat fullShare byte l₃ 0 (vint w8 before)) ∷ ‵ (fdies byte l₃) ∷ []
 
       -- the invariant, where t entries are left: n - t are handed out
       abbrev I : ℕ → List (Item 𝓤)
       I t =
-          given (t ≤ n) (‵ ftrue) ∷ ‵ (row R fullShare (upto (n - t)) b o) ∷ ‵ (fat fullShare word l₅ 0 (vint w64 (n - t))) ∷ ‵ (froom tyBool l₇ 0) ∷ ‵
-          (froom E′.mir l₈ 0) ∷ ‵ (froom word l₉ 0) ∷ ‵ (froom tyPtr l₁₀ 0) ∷ Frame
+          given (t ≤ n) (‵ ftrue) ∷ ‵ (row R fullShare (upto (n - t)) b o) ∷ ‵ (fat fullShare word l₅ 0 (vint w64 (n - t))) ∷ ‵ (froom tyBool l₇ 0) ∷
+          ‵ (froom E′.mir l₈ 0) ∷ ‵ (froom word l₉ 0) ∷ ‵ (froom tyPtr l₁₀ 0) ∷ Frame
 
       -- when the loop is left, the rest of the body runs
       abbrev Left : Out → SProp 𝓤
@@ -284,8 +284,8 @@ module _ {M : Type 1} (𝓤 : URA M) (H : Heap 𝓤) (A : Atoms 𝓤) (W : Given
           calls-at ! fm (Reply 𝓤 H A mem run) known-reply (to-reply (length xs))
           (and-then ! (load ! (from ! (stop !)) (look ! 7 refl))
           (and-then ! (load ! (from ! (stop !)) (look ! 10 refl)) (and-then ! (load ! (from ! (stop !)) (look ! 25 refl)) (no-more !)))) (λ v.
-          use1 W (later (some (λ (r : Answer). (‵ ftrue ⊛ ‵ (S.the-row .own r (v ∷ []))) ⊛ raw
-          (ensured 𝓤 H A reply.ended (reply.clauses 𝓤 H A mem run) tt (tb, (length xs, (before, tt))) tt r)))) (id⊢ 𝓤 _) $ await ! tt $ pick ! (λ r.
+          use1 W (later (some (λ (r : Answer). (‵ ftrue ⊛ ‵ (S.the-row .own r (v ∷ []))) ⊛
+          raw (ensured 𝓤 H A reply.ended (reply.clauses 𝓤 H A mem run) tt (tb, (length xs, (before, tt))) tt r)))) (id⊢ 𝓤 _) $ await ! tt $ pick ! (λ r.
           split ! $ move ! (1 ∷ []) $ use1 W (raw (fact 𝓤 (r ≡ replyOf 256 tb (length xs) before))) (reply-said (length xs) r) $
           heard ! (r ≡ replyOf 256 tb (length xs) before) (λ e. split ! $ drop ! $
           -- [the answer; the row; _5; _7; _8; _9; _10; _1; _2; _4; _6; room for _0; the open borrow; obs; auth; and that each local dies]
@@ -319,8 +319,8 @@ module _ {M : Type 1} (𝓤 : URA M) (H : Heap 𝓤) (A : Atoms 𝓤) (W : Given
           use0 W (raw (EntryAt 𝓤 H A mem run .pre (to-entry-at (n - suc t)))) (asks-entry-at (n - suc t) (omega (arith, n≤256)) (omega (arith, n≤256))) $
           calls-at ! fm (EntryAt 𝓤 H A mem run) known-entry-at (to-entry-at (n - suc t))
           (and-then ! (load ! (from ! (stop !)) (look ! 7 refl)) (and-then ! (load ! (from ! (stop !)) (look ! 2 refl)) (no-more !))) (λ v.
-          use1 W (later (some (λ (r : Entry). (‵ ftrue ⊛ ‵ (R .own r (v ∷ []))) ⊛ raw
-          (ensured 𝓤 H A entry-at.ended (entry-at.clauses 𝓤 H A mem run) tt (tb, (n - suc t, tt)) tt r)))) (id⊢ 𝓤 _) $ await ! tt $ pick ! (λ r.
+          use1 W (later (some (λ (r : Entry). (‵ ftrue ⊛ ‵ (R .own r (v ∷ []))) ⊛
+          raw (ensured 𝓤 H A entry-at.ended (entry-at.clauses 𝓤 H A mem run) tt (tb, (n - suc t, tt)) tt r)))) (id⊢ 𝓤 _) $ await ! tt $ pick ! (λ r.
           split ! $ move ! (1 ∷ []) $ use1 W (raw (fact 𝓤 (r ≡ getD (tb .entries) (n - suc t) blank))) (entry-at-said (n - suc t) r) $
           heard ! (r ≡ getD (tb .entries) (n - suc t) blank) (λ e. split ! $ drop ! $
           -- [what the entry owns; the row; _5; _7; room for _8; _9; _10; _1; _2; _4; _6; …]
@@ -365,8 +365,8 @@ module _ {M : Type 1} (𝓤 : URA M) (H : Heap 𝓤) (A : Atoms 𝓤) (W : Given
         calls-at ! fm (ToHand 𝓤 H A mem run) known-to-hand (to-to-hand (length xs))
         (and-then ! (load ! (from ! (stop !)) (look ! 19 refl))
         (and-then ! (load ! (from ! (stop !)) (look ! 9 refl)) (and-then ! (load ! (from ! (stop !)) (look ! 15 refl)) (no-more !)))) (λ v.
-        use1 W (later (some (λ (r : ℕ). (‵ ftrue ⊛ ‵ (usize .own r (v ∷ []))) ⊛ raw
-        (ensured 𝓤 H A to-hand.ended (to-hand.clauses 𝓤 H A mem run) tt (tb, (length xs, (before, tt))) tt r)))) (id⊢ 𝓤 _) $ await ! tt $ pick ! (λ r.
+        use1 W (later (some (λ (r : ℕ). (‵ ftrue ⊛ ‵ (usize .own r (v ∷ []))) ⊛
+        raw (ensured 𝓤 H A to-hand.ended (to-hand.clauses 𝓤 H A mem run) tt (tb, (length xs, (before, tt))) tt r)))) (id⊢ 𝓤 _) $ await ! tt $ pick ! (λ r.
         split ! $ move ! (1 ∷ []) $ use1 W (raw (fact 𝓤 (r ≡ n))) (to-hand-said (length xs) r) $ heard ! (r ≡ n) (λ e. split ! $ drop ! $
         facts ! usize (Is usize) (shows 𝓤 H A usize) r (v ∷ []) (λ is.
         land ! (from ! (stop !)) (init ! 12 refl (uint-lawful 𝓤 H A W w64 .typed r _ is .0)) $
