@@ -14,11 +14,13 @@ use lib.Dec.{ltb, leb}
 use lib.ListN.{length, getD, set, take, drop, length-append, length-drop}
 use lib.Seq.{length-take-le}
 use borrow.Author.Tests.{lt-ltb, le-ltb, ltb-false, leb-true}
+use Rattle.fields.proofs.AnswerLaws.{told-same}
+use Rattle.fields.specs.declared.Answer.{Answer}
 use Rattle.fields.specs.declared.Answer.the-variants.{Accepted, Refused}
 use Rattle.table.specs.declared.Entry.{Entry}
 use Rattle.table.specs.declared.Table.{Table}
 use Rattle.table.specs.Entries.{listOf, ascending, wellFormed}
-use Rattle.hands.specs.Handing.{handedAs, handedBy, handNo, handed, countIf, replyIf, toHand, replyOf}
+use Rattle.hands.specs.Handing.{Handed, handedAs, handedBy, handNo, handed, countIf, replyIf, toHand, replyOf}
 
 -- ---- lists
 
@@ -127,3 +129,8 @@ module _ (N : ℕ) (t : Table) where
   hand-done len xs before =
       told-by xs (handNo N t (length xs) before)
       (λ e. length-take-le (t .count) (t .entries) (omega (arith, len, no-means N t (length xs) before e .0)))
+
+-- ---- two answers that one contract allows are equal, and so is every entry of the slice
+
+pub handed-same : (a b : Answer) (xs ys : List Entry) → handedAs a xs ≡ handedAs b ys → (a ≡ b) × (xs ≡ ys)
+handed-same a b xs ys e = (told-same a b (ap (λ (h : Handed). h .told) e), ap (λ (h : Handed). h .slice) e)
