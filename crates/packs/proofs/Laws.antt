@@ -41,7 +41,7 @@ module _ {A : Type 0} (g : A → List ℕ) (w : ℕ) (size : (x : A) → length 
 
 pub length-three : (x y z : ℕ) → length (three x y z) ≡ 24
 unfolding three
-length-three x y z = rw (length-append, length-append, length-bytesOf, length-bytesOf, length-bytesOf)
+length-three x y z = rw (length-append, length-append, length-bytesOf 8 x, length-bytesOf 8 y, length-bytesOf 8 z)
 
 pub length-entry : (e : Entry) → length (entryBytes e) ≡ 24
 unfolding entryBytes
@@ -57,7 +57,26 @@ length-pages n ps h = rw (length-append, length-bytesOf, length-all (bytesOf 4) 
 
 pub length-slot : (s : Slot) → length (slotBytes s) ≡ 16
 unfolding slotBytes
-length-slot s = rw (length-append, length-bytesOf, length-bytesOf)
+length-slot s = rw (length-append, length-bytesOf 8 (slotTag s), length-bytesOf 8 (slotId s))
+
+pub length-packed : (s : Store) → Sized s → length (packed s) ≡ 6748
+unfolding packed
+length-packed s z =
+    rw (
+      length-append,
+      length-append,
+      length-append,
+      length-append,
+      length-append,
+      length-append,
+      length-three (s .lens .log) (s .lens .db) (s .lens .clog),
+      length-three (s .next .0) (s .time .0) (s .mark .0),
+      length-table (s .table) (z .entries),
+      length-pages (s .frames .count) (s .frames .pages) (z .pages),
+      length-slot,
+      length-pages (s .held .touched .count) (s .held .touched .pages) (z .touched),
+      length-bytesOf,
+    )
 
 -- ---- the parts one after the other
 
