@@ -3,10 +3,17 @@
 use Prim.Native.Nat.{ℕ}
 use mathlib.Core.List.{List}
 use mathlib.Core.Bool.{cond}
-use lib.Dec.{eqb}
+use lib.ListN.{length, getD}
+use lib.Seq.{sets}
+use lib.Dec.{ltb, eqb}
 use Rattle.form.specs.declared.Store.{Store}
-use Rattle.form.specs.Store.{Outcome}
-use Rattle.packs.specs.Packs.{packedInto, unpacked}
+use Rattle.form.specs.Store.{Outcome, Given}
+use Rattle.packs.specs.Packs.{storeBytes, packedInto, unpacked}
+use Rattle.opening.specs.Opening.{opened}
+use Rattle.world.specs.declared.Lens.{Lens}
+use Rattle.quiet.specs.declared.EntryCount.{EntryCount}
+use Rattle.quiet.specs.Entries.{entriesCounted}
+use Rattle.quiet.specs.Handed.{pageRead}
 
 -- the answer, and every byte of the five buffers
 pub record Ended : Type 0 where
@@ -28,3 +35,30 @@ repacked b o = ended (o .number) (packedInto (o .store) b .bytes) (o .log) (o .d
 unfoldable pub hosted : (Store → List ℕ → List ℕ → List ℕ → List ℕ → Outcome) → List ℕ → List ℕ → List ℕ → List ℕ → List ℕ → Ended
 hosted f b log db clog frames =
     cond (eqb (unpacked b .number) 0) (repacked b (f (unpacked b .store) log db clog frames)) (ended (unpacked b .number) b log db clog frames)
+
+-- ---- what is handed out beside it
+
+pub record Handed (A : Type 0) : Type 0 where
+  pub value : A
+  pub ended : Ended
+
+abbrev pub handed : {A : Type 0} → A → Ended → Handed A
+handed a e = record { value = a; ended = e }
+
+-- An opening. The buffer for the store is tested first: 14 where it is too short. The value is the database's length where images are laid, else 0. An opening
+-- that is not accepted leaves a store that every call answers by 14.
+unfoldable pub hostedOpen : ℕ → Lens → ℕ → List ℕ → List ℕ → List ℕ → List ℕ → List ℕ → Handed ℕ
+hostedOpen P lens old b log db clog frames =
+    let g = opened P lens log db clog frames in
+    cond (ltb (length b) storeBytes) (handed old (ended 14 b log db clog frames)) (handed (getD (g .value) 0 0) (repacked b (g .outcome)))
+
+-- a page that is read goes over the front of the host's bytes
+unfoldable pub hostedRead : ℕ → ℕ → List ℕ → List ℕ → List ℕ → List ℕ → List ℕ → List ℕ → Handed (List ℕ)
+hostedRead P page old b log db clog frames =
+    let g = pageRead P page (unpacked b .store) log db clog frames in
+    cond (eqb (unpacked b .number) 0) (handed (sets old 0 (g .value)) (repacked b (g .outcome))) (handed old (ended (unpacked b .number) b log db clog frames))
+
+-- how many entries the table has, which changes nothing
+unfoldable pub hostedCount : ℕ → List ℕ → List ℕ → List ℕ → List ℕ → List ℕ → EntryCount
+hostedCount P b log db clog frames =
+    cond (eqb (unpacked b .number) 0) (entriesCounted P (unpacked b .store) log db clog frames) (record { number = unpacked b .number; entries = 0 })

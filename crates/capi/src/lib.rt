@@ -3,11 +3,15 @@
 use fields::TransactionId;
 use fields::numbers;
 use form::Changed;
+use opening::Verdict;
+use world::Lens;
 ghost use mathlib.Core.Path.{_≡_};
-ghost use Rattle.world.specs.Calls.{Begin, Flush, Commit, Rollback, Advance};
+ghost use lib.ListN.{getD};
+ghost use Rattle.world.specs.Calls.{Begin, Flush, Commit, Rollback, Advance, Write};
+ghost use Rattle.opening.specs.Opening.{verdictTold};
 ghost use Rattle.form.specs.Store.{called};
 ghost use Rattle.packs.specs.Packs.{packing, packedInto};
-ghost use Rattle.capi.specs.Hosted.{ended, hosted};
+ghost use Rattle.capi.specs.Hosted.{ended, hosted, handed, hostedOpen, hostedRead, hostedCount};
 
 // The store that a call leaves goes back into its buffer, and the call's number to the host.
 fn keep(r: Changed, out: &mut [u8]) -> u8
@@ -114,5 +118,130 @@ pub extern "C" fn pager_advance(
     }
     let s = u.store;
     let r = settle::advance(s, TransactionId(mark), log, db, clog, frames);
+    keep(r, store)
+}
+
+#[no_mangle]
+pub extern "C" fn pager_write_page(
+    store: &mut [u8],
+    page: u32,
+    bytes: &[u8; 4096],
+    log: &[u8],
+    db: &[u8],
+    clog: &[u8],
+    frames: &mut [u8],
+) -> u8
+    ensures { λ r. ⌜ ended r (now (store .exit)) (now (log .entry)) (now (db .entry)) (now (clog .entry)) (now (frames .exit)) ≡ hosted (called 4096 (Write page (now (bytes .entry)))) (now (store .entry)) (now (log .entry)) (now (db .entry)) (now (clog .entry)) (now (frames .entry)) ⌝ }
+{
+    let u = packs::unpack(&store[..]);
+    if u.number != numbers::ACCEPTED {
+        return u.number;
+    }
+    let s = u.store;
+    let r = quiet::write_page(s, page, bytes, log, db, clog, frames);
+    keep(r, store)
+}
+
+// The page's bytes go over the front of out.
+#[no_mangle]
+pub extern "C" fn pager_read_page(
+    store: &mut [u8],
+    page: u32,
+    out: &mut [u8],
+    log: &[u8],
+    db: &[u8],
+    clog: &[u8],
+    frames: &mut [u8],
+) -> u8
+    ensures { λ r. ⌜ handed (now (out .exit)) (ended r (now (store .exit)) (now (log .entry)) (now (db .entry)) (now (clog .entry)) (now (frames .exit))) ≡ hostedRead 4096 page (now (out .entry)) (now (store .entry)) (now (log .entry)) (now (db .entry)) (now (clog .entry)) (now (frames .entry)) ⌝ }
+{
+    let u = packs::unpack(&store[..]);
+    if u.number != numbers::ACCEPTED {
+        return u.number;
+    }
+    let s = u.store;
+    let p = quiet::read_page(s, page, log, db, clog, frames);
+    let bytes = p.bytes;
+    fields::copy(out, &bytes[..]);
+    let r = p.changed;
+    keep(r, store)
+}
+
+#[no_mangle]
+pub extern "C" fn pager_entry_count(
+    store: &[u8],
+    log: &[u8],
+    db: &[u8],
+    clog: &[u8],
+    frames: &[u8],
+    entries: &mut usize,
+) -> u8
+    ensures { λ r. ⌜ record { number = r; entries = now (entries .exit) } ≡ hostedCount 4096 (now (store .entry)) (now (log .entry)) (now (db .entry)) (now (clog .entry)) (now (frames .entry)) ⌝ }
+{
+    let u = packs::unpack(store);
+    if u.number != numbers::ACCEPTED {
+        *entries = 0;
+        return u.number;
+    }
+    let s = u.store;
+    let n = quiet::entry_count(s, log, db, clog, frames);
+    *entries = n.entries;
+    n.number
+}
+
+// ---- opening
+
+fn number_of(v: Verdict) -> u8
+    ensures { λ r. ⌜ r ≡ verdictTold v .number ⌝ }
+{
+    match v {
+        Verdict::Accepted(_) => numbers::ACCEPTED,
+        Verdict::Refused(n) => n,
+        Verdict::Torn(_) => numbers::TORN,
+        Verdict::Unknown(_) => numbers::UNKNOWN_TAG,
+    }
+}
+
+// The database's length that a verdict tells.
+fn length_of(v: Verdict) -> usize
+    ensures { λ r. ⌜ r ≡ getD (verdictTold v .values) 0 0 ⌝ }
+{
+    match v {
+        Verdict::Accepted(n) => n,
+        Verdict::Refused(_) => 0,
+        Verdict::Torn(n) => n,
+        Verdict::Unknown(n) => n,
+    }
+}
+
+// The files of these lengths are opened, and the store goes into its buffer.
+#[no_mangle]
+pub extern "C" fn pager_open(
+    store: &mut [u8],
+    log_len: usize,
+    db_len: usize,
+    clog_len: usize,
+    log: &mut [u8],
+    db: &mut [u8],
+    clog: &mut [u8],
+    frames: &[u8],
+    told: &mut usize,
+) -> u8
+    ensures { λ r. ⌜ handed (now (told .exit)) (ended r (now (store .exit)) (now (log .exit)) (now (db .exit)) (now (clog .exit)) (now (frames .entry))) ≡ hostedOpen 4096 (record { log = «log_len»; db = «db_len»; clog = «clog_len» }) (now (told .entry)) (now (store .entry)) (now (log .entry)) (now (db .entry)) (now (clog .entry)) (now (frames .entry)) ⌝ }
+{
+    if store.len() < packs::STORE_BYTES {
+        return numbers::OUT_OF_FORM;
+    }
+    let lens = Lens {
+        log: log_len,
+        db: db_len,
+        clog: clog_len,
+    };
+    let o = opens::open(lens, log, db, clog, frames);
+    let verdict = o.verdict;
+    let number = number_of(verdict);
+    *told = length_of(verdict);
+    let s = o.store;
+    let r = Changed { number, store: s };
     keep(r, store)
 }
