@@ -1,6 +1,6 @@
 -- Laws of a hosted call: no store stands in the buffer, or the call is made and what it leaves is packed. Assumes nothing.
 use mathlib.Core.Path.{_≡_, refl, sym, ap, _∙_}
-use mathlib.Core.List.{List}
+use mathlib.Core.List.{List, append-nil}
 use mathlib.Core.Bool.{Bool, cond}
 use Prim.Native.Nat.{ℕ, _≤_, _<_}
 use borrow.Author.Tests.{eq-eqb, ne-eqb, lt-ltb, le-ltb}
@@ -13,11 +13,15 @@ use Rattle.world.specs.declared.Lens.{Lens}
 use Rattle.opening.specs.declared.Opened.{Opened}
 use Rattle.opening.specs.Opening.{verdictTold, openedAs, opened}
 use Rattle.quiet.specs.declared.EntryCount.{EntryCount}
-use Rattle.quiet.specs.Entries.{entriesCounted}
+use Rattle.table.specs.declared.Entry.{Entry}
+use Rattle.quiet.specs.declared.EntryAt.{EntryAt}
+use Rattle.quiet.specs.declared.EntryAt.the-variants.{Is}
+use Rattle.quiet.specs.declared.EntryRead.{EntryRead}
+use Rattle.quiet.specs.Entries.{entriesCounted, entriesIn, EntryTold, entryTold, entryRead}
 use Rattle.quiet.specs.Handed.{pageRead}
 use lib.Seq.{sets}
-use Rattle.packs.specs.Packs.{Packing, packing, packedInto, unpacked}
-use Rattle.capi.specs.Hosted.{Ended, ended, repacked, hosted, Handed, handed, hostedRead, hostedCount, hostedOpen}
+use Rattle.packs.specs.Packs.{laidAll, entryBytes, Packing, packing, packedInto, unpacked}
+use Rattle.capi.specs.Hosted.{Ended, ended, repacked, hosted, Handed, handed, hostedRead, hostedCount, hostedOpen, hostedEntry}
 
 module _ (f : Store → List ℕ → List ℕ → List ℕ → List ℕ → Outcome) (b log db clog frames : List ℕ) (u : Changed) (e : u ≡ unpacked b) where
   pub hosted-no : (u .number ≡ 0 → ⊥) → ended (u .number) b log db clog frames ≡ hosted f b log db clog frames
@@ -72,3 +76,21 @@ module _ (P : ℕ) (lens : Lens) (old : ℕ) (b log db clog frames : List ℕ) w
       ∙ ap (λ (k : ℕ). handed told (ended k (packedInto (o .store) b .bytes) log₁ db₁ clog₁ frames₁)) v
       ∙ ap (λ (k : ℕ). handed k (ended (verdictTold (o .verdict) .number) (packedInto (o .store) b .bytes) log₁ db₁ clog₁ frames₁)) t in
       s ∙ ap (λ (k : Given (List ℕ)). handed (getD (k .value) 0 0) (repacked b (k .outcome))) p ∙ rw (le-ltb (length b) 6748 h)
+
+-- the bytes of one entry
+pub entry-out : (x : Entry) (at : EntryAt) (b out : List ℕ) → at ≡ Is x → out ≡ sets b 0 (entryBytes x) → out ≡ sets b 0 (laidAll entryBytes (entriesIn at))
+unfolding laidAll
+entry-out x at b out p q = rw p (q ∙ ap (sets b 0) (sym (append-nil (entryBytes x))))
+
+module _ (P i : ℕ) (old b log db clog frames : List ℕ) (u : Changed) (e : u ≡ unpacked b) where
+  pub entry-no : (u .number ≡ 0 → ⊥) → packing (u .number) old ≡ hostedEntry P i old b log db clog frames
+  unfolding hostedEntry
+  entry-no h = rw (← e, ne-eqb (u .number) 0 h)
+
+  pub entry-on : u .number ≡ 0 → (t : EntryRead) (out : List ℕ) → entryTold t ≡ entryRead P i (u .store) log db clog frames
+      → out ≡ sets old 0 (laidAll entryBytes (entriesIn (t .entry))) → packing (t .number) out ≡ hostedEntry P i old b log db clog frames
+  unfolding hostedEntry
+  entry-on h t out p o =
+      ap (λ (k : List ℕ). packing (t .number) k) o
+      ∙ ap (λ (k : EntryTold). packing (k .number) (sets old 0 (laidAll entryBytes (k .entries)))) p
+      ∙ rw (← e, eq-eqb (u .number) 0 h)

@@ -8,11 +8,11 @@ use lib.Seq.{sets}
 use lib.Dec.{ltb, eqb}
 use Rattle.form.specs.declared.Store.{Store}
 use Rattle.form.specs.Store.{Outcome, Given}
-use Rattle.packs.specs.Packs.{storeBytes, packedInto, unpacked}
+use Rattle.packs.specs.Packs.{storeBytes, laidAll, entryBytes, Packing, packing, packedInto, unpacked}
 use Rattle.opening.specs.Opening.{opened}
 use Rattle.world.specs.declared.Lens.{Lens}
 use Rattle.quiet.specs.declared.EntryCount.{EntryCount}
-use Rattle.quiet.specs.Entries.{entriesCounted}
+use Rattle.quiet.specs.Entries.{entriesCounted, entryRead}
 use Rattle.quiet.specs.Handed.{pageRead}
 
 -- the answer, and every byte of the five buffers
@@ -62,3 +62,9 @@ hostedRead P page old b log db clog frames =
 unfoldable pub hostedCount : ℕ → List ℕ → List ℕ → List ℕ → List ℕ → List ℕ → EntryCount
 hostedCount P b log db clog frames =
     cond (eqb (unpacked b .number) 0) (entriesCounted P (unpacked b .store) log db clog frames) (record { number = unpacked b .number; entries = 0 })
+
+-- the i-th entry goes over the front of the host's bytes as it stands in a packed store; nothing is stored where there is none
+unfoldable pub hostedEntry : ℕ → ℕ → List ℕ → List ℕ → List ℕ → List ℕ → List ℕ → List ℕ → Packing
+hostedEntry P i old b log db clog frames =
+    let t = entryRead P i (unpacked b .store) log db clog frames in
+    cond (eqb (unpacked b .number) 0) (packing (t .number) (sets old 0 (laidAll entryBytes (t .entries)))) (packing (unpacked b .number) old)

@@ -4,14 +4,17 @@ use fields::TransactionId;
 use fields::numbers;
 use form::Changed;
 use opening::Verdict;
+use quiet::EntryAt;
 use world::Lens;
 ghost use mathlib.Core.Path.{_≡_};
 ghost use lib.ListN.{getD};
+ghost use lib.Seq.{sets};
 ghost use Rattle.world.specs.Calls.{Begin, Flush, Commit, Rollback, Advance, Write};
 ghost use Rattle.opening.specs.Opening.{verdictTold};
 ghost use Rattle.form.specs.Store.{called};
-ghost use Rattle.packs.specs.Packs.{packing, packedInto};
-ghost use Rattle.capi.specs.Hosted.{ended, hosted, handed, hostedOpen, hostedRead, hostedCount};
+ghost use Rattle.packs.specs.Packs.{laidAll, entryBytes, packing, packedInto};
+ghost use Rattle.quiet.specs.Entries.{entriesIn};
+ghost use Rattle.capi.specs.Hosted.{ended, hosted, handed, hostedOpen, hostedRead, hostedCount, hostedEntry};
 
 // The store that a call leaves goes back into its buffer, and the call's number to the host.
 fn keep(r: Changed, out: &mut [u8]) -> u8
@@ -187,6 +190,39 @@ pub extern "C" fn pager_entry_count(
     let n = quiet::entry_count(s, log, db, clog, frames);
     *entries = n.entries;
     n.number
+}
+
+// An entry's 24 bytes over the front of the buffer, where there is one.
+fn hand_out(e: EntryAt, out: &mut [u8])
+    ensures { λ _. ⌜ now (out .exit) ≡ sets (now (out .entry)) 0 (laidAll entryBytes (entriesIn e)) ⌝ }
+{
+    let EntryAt::Is(x) = e else {
+        return;
+    };
+    packs::pack_entry(x, out);
+}
+
+#[no_mangle]
+pub extern "C" fn pager_entry(
+    store: &[u8],
+    i: usize,
+    out: &mut [u8],
+    log: &[u8],
+    db: &[u8],
+    clog: &[u8],
+    frames: &[u8],
+) -> u8
+    ensures { λ r. ⌜ packing r (now (out .exit)) ≡ hostedEntry 4096 i (now (out .entry)) (now (store .entry)) (now (log .entry)) (now (db .entry)) (now (clog .entry)) (now (frames .entry)) ⌝ }
+{
+    let u = packs::unpack(store);
+    if u.number != numbers::ACCEPTED {
+        return u.number;
+    }
+    let s = u.store;
+    let t = quiet::entry_at(s, i, log, db, clog, frames);
+    let e = t.entry;
+    hand_out(e, out);
+    t.number
 }
 
 // ---- opening

@@ -87,6 +87,13 @@ fn put_entry(b: &mut [u8], at: usize, e: Entry)
     put_three(b, at, e.id.0, tag, time);
 }
 
+// An entry by itself, as it stands in a packed store, over the front of the buffer.
+pub fn pack_entry(e: Entry, out: &mut [u8])
+    ensures { λ _. ⌜ now (out .exit) ≡ sets (now (out .entry)) 0 (entryBytes e) ⌝ }
+{
+    put_entry(out, 0, e);
+}
+
 fn put_entries(b: &mut [u8], entries: [Entry; 256])
     ensures { λ _. ⌜ now (b .exit) ≡ sets (now (b .entry)) 56 (laidAll entryBytes entries) ⌝ }
 {
