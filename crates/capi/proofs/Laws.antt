@@ -28,11 +28,13 @@ module _ (f : Store → List ℕ → List ℕ → List ℕ → List ℕ → Outc
   unfolding hosted
   hosted-no h = rw (← e, ne-eqb (u .number) 0 h)
 
-  pub hosted-on : u .number ≡ 0 → (r : Changed) (n : ℕ) (b₁ log₁ db₁ clog₁ frames₁ : List ℕ) → outcome r log₁ db₁ clog₁ frames₁ ≡ f (u .store) log db clog frames
+  pub hosted-on : u .number ≡ 0 → (r : Changed) (n : ℕ) (b₁ log₁ db₁ clog₁ frames₁ : List ℕ)
+      → outcome r log₁ db₁ clog₁ frames₁ ≡ f (u .store) log db clog frames
       → packing n b₁ ≡ packing (r .number) (packedInto (r .store) b .bytes) → ended n b₁ log₁ db₁ clog₁ frames₁ ≡ hosted f b log db clog frames
   unfolding hosted repacked
   hosted-on h r n b₁ log₁ db₁ clog₁ frames₁ p q =
-      let s : ended n b₁ log₁ db₁ clog₁ frames₁ ≡ repacked b (outcome r log₁ db₁ clog₁ frames₁) = ap (λ (k : Packing). ended (k .number) (k .bytes) log₁ db₁ clog₁ frames₁) q in
+      let s : ended n b₁ log₁ db₁ clog₁ frames₁ ≡ repacked b (outcome r log₁ db₁ clog₁ frames₁) =
+      ap (λ (k : Packing). ended (k .number) (k .bytes) log₁ db₁ clog₁ frames₁) q in
       s ∙ ap (repacked b) p ∙ rw (← e, eq-eqb (u .number) 0 h)
 
 -- ---- what is handed out beside it
@@ -42,7 +44,8 @@ module _ (P page : ℕ) (old b log db clog frames : List ℕ) (u : Changed) (e :
   unfolding hostedRead
   read-no h = rw (← e, ne-eqb (u .number) 0 h)
 
-  pub read-on : u .number ≡ 0 → (r : Changed) (n : ℕ) (bytes out b₁ log₁ db₁ clog₁ frames₁ : List ℕ) → given bytes r log₁ db₁ clog₁ frames₁ ≡ pageRead P page (u .store) log db clog frames
+  pub read-on : u .number ≡ 0 → (r : Changed) (n : ℕ) (bytes out b₁ log₁ db₁ clog₁ frames₁ : List ℕ)
+      → given bytes r log₁ db₁ clog₁ frames₁ ≡ pageRead P page (u .store) log db clog frames
       → out ≡ sets old 0 bytes → packing n b₁ ≡ packing (r .number) (packedInto (r .store) b .bytes)
       → handed out (ended n b₁ log₁ db₁ clog₁ frames₁) ≡ hostedRead P page old b log db clog frames
   unfolding hostedRead repacked
@@ -65,8 +68,10 @@ module _ (P : ℕ) (lens : Lens) (old : ℕ) (b log db clog frames : List ℕ) w
   unfolding hostedOpen
   open-short h = rw (lt-ltb (length b) 6748 h)
 
-  pub open-on : 6748 ≤ length b → (o : Opened) (number n told : ℕ) (b₁ log₁ db₁ clog₁ frames₁ : List ℕ) → openedAs o log₁ db₁ clog₁ frames₁ ≡ opened P lens log db clog frames
-      → number ≡ verdictTold (o .verdict) .number → told ≡ getD (verdictTold (o .verdict) .values) 0 0 → packing n b₁ ≡ packing number (packedInto (o .store) b .bytes)
+  pub open-on : 6748 ≤ length b → (o : Opened) (number n told : ℕ) (b₁ log₁ db₁ clog₁ frames₁ : List ℕ)
+      → openedAs o log₁ db₁ clog₁ frames₁ ≡ opened P lens log db clog frames
+      → number ≡ verdictTold (o .verdict) .number → told ≡ getD (verdictTold (o .verdict) .values) 0 0
+      → packing n b₁ ≡ packing number (packedInto (o .store) b .bytes)
       → handed told (ended n b₁ log₁ db₁ clog₁ frames₁) ≡ hostedOpen P lens old b log db clog frames
   unfolding hostedOpen repacked
   open-on h o number n told b₁ log₁ db₁ clog₁ frames₁ p v t q =

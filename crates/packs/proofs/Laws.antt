@@ -80,21 +80,26 @@ length-packed s z =
 
 -- ---- the parts one after the other
 
-pub three-laid : (at x y z : ℕ) (b b₁ b₂ b₃ : List ℕ) → b₁ ≡ sets b at (bytesOf 8 x) → b₂ ≡ sets b₁ (at + 8) (bytesOf 8 y) → b₃ ≡ sets b₂ (at + 16) (bytesOf 8 z)
+pub three-laid : (at x y z : ℕ) (b b₁ b₂ b₃ : List ℕ) → b₁ ≡ sets b at (bytesOf 8 x) → b₂ ≡ sets b₁ (at + 8) (bytesOf 8 y)
+    → b₃ ≡ sets b₂ (at + 16) (bytesOf 8 z)
     → b₃ ≡ sets b at (three x y z)
 unfolding three
 three-laid at x y z b b₁ b₂ b₃ p q r =
-    laid-next at (at + 8) (bytesOf 8 x) _ b b₁ b₃ (rw length-bytesOf) p (laid-next (at + 8) (at + 16) (bytesOf 8 y) _ b₁ b₂ b₃ (rw length-bytesOf (omega arith)) q r)
+    laid-next at (at + 8) (bytesOf 8 x) _ b b₁ b₃ (rw length-bytesOf) p
+    (laid-next (at + 8) (at + 16) (bytesOf 8 y) _ b₁ b₂ b₃ (rw length-bytesOf (omega arith)) q r)
 
-pub slot-laid : (s : Slot) (b b₁ b₂ : List ℕ) → b₁ ≡ sets b 6464 (bytesOf 8 (slotTag s)) → b₂ ≡ sets b₁ 6472 (bytesOf 8 (slotId s)) → b₂ ≡ sets b 6464 (slotBytes s)
+pub slot-laid : (s : Slot) (b b₁ b₂ : List ℕ) → b₁ ≡ sets b 6464 (bytesOf 8 (slotTag s)) → b₂ ≡ sets b₁ 6472 (bytesOf 8 (slotId s))
+    → b₂ ≡ sets b 6464 (slotBytes s)
 unfolding slotBytes
 slot-laid s b b₁ b₂ p q = laid-next 6464 6472 (bytesOf 8 (slotTag s)) _ b b₁ b₂ (rw length-bytesOf) p q
 
-pub table-laid : (t : Table) (b b₁ b₂ : List ℕ) → b₁ ≡ sets b 48 (bytesOf 8 (t .count)) → b₂ ≡ sets b₁ 56 (laidAll entryBytes (t .entries)) → b₂ ≡ sets b 48 (tableBytes t)
+pub table-laid : (t : Table) (b b₁ b₂ : List ℕ) → b₁ ≡ sets b 48 (bytesOf 8 (t .count)) → b₂ ≡ sets b₁ 56 (laidAll entryBytes (t .entries))
+    → b₂ ≡ sets b 48 (tableBytes t)
 unfolding tableBytes
 table-laid t b b₁ b₂ p q = laid-next 48 56 (bytesOf 8 (t .count)) _ b b₁ b₂ (rw length-bytesOf) p q
 
-pub pages-laid : (at n : ℕ) (ps b b₁ b₂ : List ℕ) → b₁ ≡ sets b at (bytesOf 8 n) → b₂ ≡ sets b₁ (at + 8) (laidAll (bytesOf 4) ps) → b₂ ≡ sets b at (pagesBytes n ps)
+pub pages-laid : (at n : ℕ) (ps b b₁ b₂ : List ℕ) → b₁ ≡ sets b at (bytesOf 8 n) → b₂ ≡ sets b₁ (at + 8) (laidAll (bytesOf 4) ps)
+    → b₂ ≡ sets b at (pagesBytes n ps)
 unfolding pagesBytes
 pages-laid at n ps b b₁ b₂ p q = laid-next at (at + 8) (bytesOf 8 n) _ b b₁ b₂ (rw length-bytesOf) p q
 
@@ -156,7 +161,8 @@ pub frames-read : (at n : ℕ) (ps b : List ℕ) → n ≡ field 8 at b → ps �
 unfolding framesIn
 frames-read at n ps b p q = rw (p, q, drop-drop 8 at b)
 
-pub held-read : (at n : ℕ) (ps b : List ℕ) (s : Slot) → s ≡ slotIn (field 8 at b) (field 8 (at + 8) b) → n ≡ field 8 (at + 16) b → ps ≡ pagesIn (drop (at + 24) b)
+pub held-read : (at n : ℕ) (ps b : List ℕ) (s : Slot) → s ≡ slotIn (field 8 at b) (field 8 (at + 8) b) → n ≡ field 8 (at + 16) b
+    → ps ≡ pagesIn (drop (at + 24) b)
     → record { slot = s; touched = record { pages = ps; count = n } } ≡ heldIn (drop at b)
 unfolding heldIn
 held-read at n ps b s p q r = rw (p, q, r, drop-drop 8 at b, drop-drop 16 at b, drop-drop 24 at b)

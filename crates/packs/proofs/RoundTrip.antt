@@ -87,13 +87,15 @@ past at m k l xs ys e z p = ap (λ (j : ℕ). drop j l) p ∙ sym (drop-drop m a
 
 -- two and three fields of eight bytes
 module _ (l ys : List ℕ) (at x y : ℕ) where
-  pub pair-back : drop at l ≡ bytesOf 8 x ++ (bytesOf 8 y ++ ys) → x < 2 ^ 64 → y < 2 ^ 64 → (field 8 at l ≡ x) × (field 8 (at + 8) l ≡ y) × (drop (at + 16) l ≡ ys)
+  pub pair-back : drop at l ≡ bytesOf 8 x ++ (bytesOf 8 y ++ ys) → x < 2 ^ 64 → y < 2 ^ 64
+      → (field 8 at l ≡ x) × (field 8 (at + 8) l ≡ y) × (drop (at + 16) l ≡ ys)
   pair-back e p q =
       let e₁ : drop (at + 8) l ≡ bytesOf 8 y ++ ys = past at 8 (at + 8) l (bytesOf 8 x) (bytesOf 8 y ++ ys) e (length-bytesOf 8 x) refl in
       (field-back 8 at x l (bytesOf 8 y ++ ys) e p, field-back 8 (at + 8) y l ys e₁ q, past (at + 8) 8 (at + 16) l (bytesOf 8 y) ys e₁ (length-bytesOf 8 y) (omega arith))
 
 module _ (l ys : List ℕ) (at x y z : ℕ) where
-  pub three-back : drop at l ≡ three x y z ++ ys → x < 2 ^ 64 → y < 2 ^ 64 → z < 2 ^ 64 → (field 8 at l ≡ x) × (field 8 (at + 8) l ≡ y) × (field 8 (at + 16) l ≡ z)
+  pub three-back : drop at l ≡ three x y z ++ ys → x < 2 ^ 64 → y < 2 ^ 64 → z < 2 ^ 64
+      → (field 8 at l ≡ x) × (field 8 (at + 8) l ≡ y) × (field 8 (at + 16) l ≡ z)
   unfolding three
   three-back e p q r =
       let f : drop at l ≡ bytesOf 8 x ++ (bytesOf 8 y ++ (bytesOf 8 z ++ ys)) =
@@ -127,7 +129,8 @@ tag-most Active = omega arith
 tag-most (Committed t) = omega arith
 tag-most Aborted = omega arith
 
-entry-same : (e : Entry) (i t m : ℕ) → i ≡ e .id .0 → t ≡ tagOf (e .status) → m ≡ timeOf (e .status) → record { id = record { 0 = i }; status = statusIn t m } ≡ e
+entry-same : (e : Entry) (i t m : ℕ) → i ≡ e .id .0 → t ≡ tagOf (e .status) → m ≡ timeOf (e .status)
+    → record { id = record { 0 = i }; status = statusIn t m } ≡ e
 entry-same e i t m p q r = rw (p, q, r, status-back (e .status))
 
 pub entry-back : (e : Entry) (ys : List ℕ) → EntryFits e → entryIn (entryBytes e ++ ys) ≡ e
@@ -142,7 +145,8 @@ unfolding entryBytes
 tag-back e ys h = three-back _ ys 0 (e .id .0) (tagOf (e .status)) (timeOf (e .status)) refl (h .0) (omega (arith, tag-most (e .status))) (h .1) .1
 
 -- every tag is one of the three
-pub tags-known : (n : ℕ) (es : List Entry) (ys : List ℕ) → length es ≡ n → ((i : ℕ) → EntryFits (getD es i blank)) → unknownTag n (laidAll entryBytes es ++ ys) ≡ false
+pub tags-known : (n : ℕ) (es : List Entry) (ys : List ℕ) → length es ≡ n → ((i : ℕ) → EntryFits (getD es i blank))
+    → unknownTag n (laidAll entryBytes es ++ ys) ≡ false
 unfolding laidAll unknownTag
 tags-known zero [] ys e h = refl
 tags-known zero (x ∷ es) ys e h = refl
@@ -155,10 +159,12 @@ tags-known (suc n) (x ∷ es) ys e h =
 -- ---- the parts of a store, from the place where each stands
 
 module _ (at : ℕ) (l ys : List ℕ) where
-  pub table-back : (t : Table) → drop at l ≡ tableBytes t ++ ys → length (t .entries) ≡ 256 → t .count < 2 ^ 64 → ((i : ℕ) → EntryFits (getD (t .entries) i blank)) → tableIn (drop at l) ≡ t
+  pub table-back : (t : Table) → drop at l ≡ tableBytes t ++ ys → length (t .entries) ≡ 256 → t .count < 2 ^ 64
+      → ((i : ℕ) → EntryFits (getD (t .entries) i blank)) → tableIn (drop at l) ≡ t
   unfolding tableBytes tableIn
   table-back t e z c h =
-      let f : drop at l ≡ bytesOf 8 (t .count) ++ (laidAll entryBytes (t .entries) ++ ys) = e ∙ append-assoc (bytesOf 8 (t .count)) (laidAll entryBytes (t .entries)) ys in
+      let f : drop at l ≡ bytesOf 8 (t .count) ++ (laidAll entryBytes (t .entries) ++ ys) =
+      e ∙ append-assoc (bytesOf 8 (t .count)) (laidAll entryBytes (t .entries)) ys in
       same (field 8 at l) (drop 8 (drop at l)) (field-back 8 at (t .count) l (laidAll entryBytes (t .entries) ++ ys) f c)
       (ap (λ (k : List ℕ). drop 8 k) f ∙ drop-at (bytesOf 8 (t .count)) (laidAll entryBytes (t .entries) ++ ys) 8 (length-bytesOf 8 (t .count)))
     where
@@ -166,17 +172,20 @@ module _ (at : ℕ) (l ys : List ℕ) where
       same n b p q = rw (p, q, all-back 24 entryIn entryBytes EntryFits blank length-entry entry-back 256 (t .entries) ys z h)
 
   -- a count and pages: the count, the pages, and what stands after them
-  pub pages-back : (n : ℕ) (ps : List ℕ) → drop at l ≡ pagesBytes n ps ++ ys → length ps ≡ 64 → n < 2 ^ 64 → PagesFit ps → (field 8 at l ≡ n) × (pagesIn (drop (at + 8) l) ≡ ps)
+  pub pages-back : (n : ℕ) (ps : List ℕ) → drop at l ≡ pagesBytes n ps ++ ys → length ps ≡ 64 → n < 2 ^ 64 → PagesFit ps
+      → (field 8 at l ≡ n) × (pagesIn (drop (at + 8) l) ≡ ps)
   unfolding pagesBytes pagesIn
   pages-back n ps e z c h =
       let f : drop at l ≡ bytesOf 8 n ++ (laidAll (bytesOf 4) ps ++ ys) = e ∙ append-assoc (bytesOf 8 n) (laidAll (bytesOf 4) ps) ys in
-      let g : drop (at + 8) l ≡ laidAll (bytesOf 4) ps ++ ys = past at 8 (at + 8) l (bytesOf 8 n) (laidAll (bytesOf 4) ps ++ ys) f (length-bytesOf 8 n) refl in (
+      let g : drop (at + 8) l ≡ laidAll (bytesOf 4) ps ++ ys =
+      past at 8 (at + 8) l (bytesOf 8 n) (laidAll (bytesOf 4) ps ++ ys) f (length-bytesOf 8 n) refl in (
         field-back 8 at n l (laidAll (bytesOf 4) ps ++ ys) f c,
         ap (readAll 4 (field 4 0) 64) g
             ∙ all-back 4 (field 4 0) (bytesOf 4) (λ p. p < 2 ^ 32) 0 (length-bytesOf 4) (λ p zs b. field-back 4 0 p (bytesOf 4 p ++ zs) zs refl b) 64 ps ys z h,
       )
 
-  pub frames-back : (f : Frames) → drop at l ≡ pagesBytes (f .count) (f .pages) ++ ys → length (f .pages) ≡ 64 → f .count < 2 ^ 64 → PagesFit (f .pages) → framesIn (drop at l) ≡ f
+  pub frames-back : (f : Frames) → drop at l ≡ pagesBytes (f .count) (f .pages) ++ ys → length (f .pages) ≡ 64 → f .count < 2 ^ 64
+      → PagesFit (f .pages) → framesIn (drop at l) ≡ f
   frames-back f e z c h =
       let k = pages-back (f .count) (f .pages) e z c h in
       sym (frames-read at (f .count) (f .pages) l (sym (k .0)) (sym (k .1)))
@@ -191,11 +200,13 @@ slot-most (Installed id) = omega arith
 slot-most Empty = omega arith
 
 module _ (at : ℕ) (l ys : List ℕ) (h : Held) (e : drop at l ≡ slotBytes (h .slot) ++ (pagesBytes (h .touched .count) (h .touched .pages) ++ ys)) (id : slotId (h .slot) < 2 ^ 64) where
-  slot-read : (field 8 at l ≡ slotTag (h .slot)) × (field 8 (at + 8) l ≡ slotId (h .slot)) × (drop (at + 16) l ≡ pagesBytes (h .touched .count) (h .touched .pages) ++ ys)
+  slot-read : (field 8 at l ≡ slotTag (h .slot)) × (field 8 (at + 8) l ≡ slotId (h .slot)) ×
+      (drop (at + 16) l ≡ pagesBytes (h .touched .count) (h .touched .pages) ++ ys)
   unfolding slotBytes
   slot-read =
       let zs : List ℕ = pagesBytes (h .touched .count) (h .touched .pages) ++ ys in
-      pair-back l zs at (slotTag (h .slot)) (slotId (h .slot)) (e ∙ append-assoc (bytesOf 8 (slotTag (h .slot))) (bytesOf 8 (slotId (h .slot))) zs) (omega (arith, slot-most (h .slot))) id
+      pair-back l zs at (slotTag (h .slot)) (slotId (h .slot)) (e ∙ append-assoc (bytesOf 8 (slotTag (h .slot))) (bytesOf 8 (slotId (h .slot))) zs)
+      (omega (arith, slot-most (h .slot))) id
 
   slot-known : ltb 1 (field 8 at l) ≡ false
   slot-known = ap (λ (t : ℕ). ltb 1 t) (slot-read .0) ∙ le-ltb 1 (slotTag (h .slot)) (slot-most (h .slot))
@@ -223,7 +234,8 @@ seven a b c d e f g ys =
       append-assoc f g ys,
     )
 
-store-same : (s : Store) (log db clog pages next time mark : ℕ) (t : Table) (f : Frames) (h : Held) → log ≡ s .lens .log → db ≡ s .lens .db → clog ≡ s .lens .clog
+store-same : (s : Store) (log db clog pages next time mark : ℕ) (t : Table) (f : Frames) (h : Held) → log ≡ s .lens .log → db ≡ s .lens .db
+    → clog ≡ s .lens .clog
     → pages ≡ s .pages → next ≡ s .next .0 → time ≡ s .time .0 → mark ≡ s .mark .0 → t ≡ s .table → f ≡ s .frames → h ≡ s .held
     → record {
       lens = record { log = log; db = db; clog = clog };
@@ -263,7 +275,8 @@ module _ (s : Store) (fits : Fits s) (l ys : List ℕ) (whole : l ≡ packed s +
       (bytesOf 4 (s .pages)) ys
 
   at-counters : drop 24 l ≡ from-counters
-  at-counters = past 0 24 24 l (three (s .lens .log) (s .lens .db) (s .lens .clog)) from-counters at-start (length-three (s .lens .log) (s .lens .db) (s .lens .clog)) refl
+  at-counters =
+      past 0 24 24 l (three (s .lens .log) (s .lens .db) (s .lens .clog)) from-counters at-start (length-three (s .lens .log) (s .lens .db) (s .lens .clog)) refl
 
   at-table : drop 48 l ≡ from-table
   at-table = past 24 24 48 l (three (s .next .0) (s .time .0) (s .mark .0)) from-table at-counters (length-three _ _ _) refl
@@ -284,7 +297,8 @@ module _ (s : Store) (fits : Fits s) (l ys : List ℕ) (whole : l ≡ packed s +
   store-back =
       let lens = three-back l from-counters 0 (s .lens .log) (s .lens .db) (s .lens .clog) at-start (fits .log) (fits .db) (fits .clog) in
       let counters = three-back l from-table 24 (s .next .0) (s .time .0) (s .mark .0) at-counters (fits .next) (fits .time) (fits .mark) in
-      store-same s (field 8 0 l) (field 8 8 l) (field 8 16 l) (field 4 6744 l) (field 8 24 l) (field 8 32 l) (field 8 40 l) (tableIn (drop 48 l)) (framesIn (drop 6200 l)) (heldIn (drop 6464 l))
+      store-same s (field 8 0 l) (field 8 8 l) (field 8 16 l) (field 4 6744 l) (field 8 24 l) (field 8 32 l) (field 8 40 l) (tableIn (drop 48 l))
+      (framesIn (drop 6200 l)) (heldIn (drop 6464 l))
       (lens .0) (lens .1) (lens .2) (field-back 4 6744 (s .pages) l ys at-pages (fits .pages)) (counters .0) (counters .1) (counters .2)
       (table-back 48 l from-frames (s .table) at-table (fits .sized .entries) (fits .entry-count) (fits .entries))
       (frames-back 6200 l from-held (s .frames) at-frames (fits .sized .pages) (fits .resident-count) (fits .resident))
@@ -294,7 +308,8 @@ module _ (s : Store) (fits : Fits s) (l ys : List ℕ) (whole : l ≡ packed s +
   unfolding unreadable tableBytes
   is-readable =
       let zs : List ℕ = laidAll entryBytes (s .table .entries) ++ from-frames in
-      let e : drop 48 l ≡ bytesOf 8 (s .table .count) ++ zs = at-table ∙ append-assoc (bytesOf 8 (s .table .count)) (laidAll entryBytes (s .table .entries)) from-frames in
+      let e : drop 48 l ≡ bytesOf 8 (s .table .count) ++ zs =
+      at-table ∙ append-assoc (bytesOf 8 (s .table .count)) (laidAll entryBytes (s .table .entries)) from-frames in
       let d : drop 56 l ≡ zs = past 48 8 56 l (bytesOf 8 (s .table .count)) zs e (length-bytesOf 8 (s .table .count)) refl in
       let n : length l ≡ 6748 + length ys = ap length whole ∙ length-append (packed s) ys ∙ ap (λ (k : ℕ). k + length ys) (length-packed s (fits .sized)) in
       none (ltb (length l) 6748) (ltb 1 (field 8 6464 l)) (unknownTag 256 (drop 56 l)) (le-ltb (length l) 6748 (omega (arith, n)))
@@ -308,10 +323,12 @@ module _ (s : Store) (fits : Fits s) (l ys : List ℕ) (whole : l ≡ packed s +
       ∙ ap (λ (t : Store). record { number = 0; store = t }) store-back
 
 -- a buffer that is long enough takes every store, and gives it back
-pub round-trip : (s : Store) (b : List ℕ) → Fits s → 6748 ≤ length b → (packedInto s b .number ≡ 0) × (unpacked (packedInto s b .bytes) ≡ record { number = 0; store = s })
+pub round-trip : (s : Store) (b : List ℕ) → Fits s → 6748 ≤ length b
+    → (packedInto s b .number ≡ 0) × (unpacked (packedInto s b .bytes) ≡ record { number = 0; store = s })
 unfolding packedInto
 round-trip s b fits h =
     let z : length (packed s) ≡ 6748 = length-packed s (fits .sized) in
-    let e : packedInto s b ≡ packing 0 (sets b 0 (packed s)) = ap (λ (t : Bool). cond t (packing 14 b) (packing 0 (sets b 0 (packed s)))) (le-ltb (length b) 6748 h) in
+    let e : packedInto s b ≡ packing 0 (sets b 0 (packed s)) =
+    ap (λ (t : Bool). cond t (packing 14 b) (packing 0 (sets b 0 (packed s)))) (le-ltb (length b) 6748 h) in
     let w : sets b 0 (packed s) ≡ packed s ++ drop (0 + length (packed s)) b = sets-eq (packed s) b 0 (omega (arith, z)) in
     (ap (λ p. p .number) e, ap (λ p. unpacked (p .bytes)) e ∙ unpacked-back s fits (sets b 0 (packed s)) (drop (0 + length (packed s)) b) w)

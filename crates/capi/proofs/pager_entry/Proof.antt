@@ -11,7 +11,8 @@ returns : tie.Need-returns
 returns c =
     let u = c .before .before in
     let a = u .before .before .before .before .before .before .before .args in
-    entry-no 4096 (a .i) (a .out .now) (a .store .now) (a .log .now) (a .db .now) (a .clog .now) (a .frames .now) (u .unpack .result) (u .unpack .ensures) (c .if1 .taken)
+    entry-no 4096 (a .i) (a .out .now) (a .store .now) (a .log .now) (a .db .now) (a .clog .now) (a .frames .now) (u .unpack .result)
+    (u .unpack .ensures) (c .if1 .taken)
 
 entry-at-requires : tie.Need-entry-at-requires
 entry-at-requires c κs = search needs
@@ -29,7 +30,8 @@ returns-2 c =
     let i = m .before .before in
     let u = i .before .before in
     let a = u .before .before .before .before .before .before .before .args in
-    entry-on 4096 (a .i) (a .out .now) (a .store .now) (a .log .now) (a .db .now) (a .clog .now) (a .frames .now) (u .unpack .result) (u .unpack .ensures) (i .if1 .left)
+    entry-on 4096 (a .i) (a .out .now) (a .store .now) (a .log .now) (a .db .now) (a .clog .now) (a .frames .now) (u .unpack .result)
+    (u .unpack .ensures) (i .if1 .left)
     (m .entry-at .result) (o .hand-out .last .1 .0) (m .entry-at .ensures) (o .hand-out .ensures)
 
 pub pager-entry-spec : {M : Type 1} → statement M

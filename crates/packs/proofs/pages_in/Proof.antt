@@ -48,7 +48,8 @@ loop-again c =
     let l = c .before .before .loop in
     let a = c .before .before .before .before .args in (
       simp length-set (l .inv .0),
-      read-turn 4 (field 4 0) 64 (l .i) (a .at) (l .a) (a .b .now) (c .get-u32 .result) (omega arith) (omega (arith, l .inv .0)) (c .get-u32 .ensures) ∙ l .inv .1,
+      read-turn 4 (field 4 0) 64 (l .i) (a .at) (l .a) (a .b .now) (c .get-u32 .result) (omega arith) (omega (arith, l .inv .0))
+          (c .get-u32 .ensures) ∙ l .inv .1,
     )
 
 returns : tie.Need-returns Inv-loop μ-loop

@@ -26,7 +26,8 @@ returns c =
     let i = k₁ .before .before in
     let t = i .before in
     let a = t .before .before .args in
-    slot-laid (a .slot) (a .b .now) (k₁ .put-u64 .last .0) (k₂ .put-u642 .last .0) (rw (← t .slot-tag .ensures) (k₁ .put-u64 .ensures)) (rw (← i .slot-id .ensures) (k₂ .put-u642 .ensures))
+    slot-laid (a .slot) (a .b .now) (k₁ .put-u64 .last .0) (k₂ .put-u642 .last .0) (rw (← t .slot-tag .ensures) (k₁ .put-u64 .ensures))
+    (rw (← i .slot-id .ensures) (k₂ .put-u642 .ensures))
 
 pub put-slot-spec : {M : Type 1} → statement M
 put-slot-spec =
