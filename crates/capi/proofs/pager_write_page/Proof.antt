@@ -1,0 +1,55 @@
+-- `capi::pager_write_page` meets its contract: no store stands there, or the call is made. Assumes nothing.
+use Rattle.world.specs.Calls.{Write}
+use Rattle.form.specs.Store.{called}
+use Rattle.capi.proofs.Laws.{hosted-no, hosted-on}
+use borrow.Author.Needs.{needs}
+use Rattle.capi.proofs.pager_write_page.Statement.{statement}
+use Rattle.capi.proofs.pager_write_page.Tie as tie
+
+unpack-requires : tie.Need-unpack-requires
+unpack-requires c κs = search needs
+
+same-length : tie.Need-same-length
+same-length c = search needs
+
+returns : tie.Need-returns
+returns c =
+    let u = c .before .before in
+    let a = u .before .before .before .before .before .before .before .args in
+    hosted-no (called 4096 (Write (a .page) (a .bytes .now))) (a .store .now) (a .log .now) (a .db .now) (a .clog .now) (a .frames .now) (u .unpack .result)
+    (u .unpack .ensures) (c .if1 .taken)
+
+write-page-requires : tie.Need-write-page-requires
+write-page-requires c κs = search needs
+
+keep-requires : tie.Need-keep-requires
+keep-requires c κs = search needs
+
+same-length-2 : tie.Need-same-length-2
+same-length-2 c = search needs
+
+same-length-3 : tie.Need-same-length-3
+same-length-3 c = search needs
+
+returns-2 : tie.Need-returns-2
+returns-2 c =
+    let k = c .before .before in
+    let m = k .before .before .before .before in
+    let i = m .before .before .before in
+    let u = i .before .before in
+    let a = u .before .before .before .before .before .before .before .args in
+    hosted-on (called 4096 (Write (a .page) (a .bytes .now))) (a .store .now) (a .log .now) (a .db .now) (a .clog .now) (a .frames .now) (u .unpack .result)
+    (u .unpack .ensures) (i .if1 .left) (m .write-page .result) _ _ _ _ _ _ (m .write-page .ensures) (k .keep .ensures)
+
+pub pager-write-page-spec : {M : Type 1} → statement M
+pager-write-page-spec =
+    tie.close
+    (tie.spec
+    unpack-requires
+    same-length
+    returns
+    write-page-requires
+    keep-requires
+    same-length-2
+    same-length-3
+    returns-2)

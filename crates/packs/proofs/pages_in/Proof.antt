@@ -1,0 +1,77 @@
+-- `packs::pages_in` meets its contract: the pages that are read, and then those that are left. The measure is how many are left. Assumes nothing.
+use mathlib.Core.Path.{_≡_, refl, sym, _∙_}
+use mathlib.Core.List.{_++_}
+use Prim.Native.Nat.{_+_, _-_, _*_}
+use native.Mathlib.Omega.{arith}
+use borrow.Author.Needs.{needs}
+use lib.ListN.{length, take, drop, length-set}
+use Rattle.packs.specs.Packs.{readAll, field, pagesIn}
+use Rattle.packs.proofs.Laws.{read-turn, read-end}
+use Rattle.packs.proofs.pages_in.Statement.{statement}
+use Rattle.packs.proofs.pages_in.Tie as tie
+
+abbrev Inv-loop : tie.InvT-loop
+Inv-loop b at a₀ i₀ a i =
+    (length a ≡ 64) × (take i a ++ readAll 4 (field 4 0) (64 - i) (drop (at + 4 * i) b) ≡ readAll 4 (field 4 0) 64 (drop at b))
+
+abbrev μ-loop : tie.MeasureT-loop
+μ-loop b at a₀ i₀ a i = 64 - i
+
+loop-holds : tie.Need-loop-holds Inv-loop μ-loop
+loop-holds c =
+    let a0 : c .before .args .at + 4 * 0 ≡ c .before .args .at = omega arith in
+    (refl, rw a0)
+
+mul-get-u32 : tie.Need-mul-get-u32 Inv-loop μ-loop
+mul-get-u32 c = search needs
+
+add-get-u32 : tie.Need-add-get-u32 Inv-loop μ-loop
+add-get-u32 c = omega arith
+
+get-u32-requires : tie.Need-get-u32-requires Inv-loop μ-loop
+get-u32-requires c κs = search needs
+
+mul-a : tie.Need-mul-a Inv-loop μ-loop
+mul-a c = search needs
+
+array-write-a : tie.Need-array-write-a Inv-loop μ-loop
+array-write-a c = search needs
+
+add-i : tie.Need-add-i Inv-loop μ-loop
+add-i c = search needs
+
+loop-less : tie.Need-loop-less Inv-loop μ-loop
+loop-less c = search needs
+
+loop-again : tie.Need-loop-again Inv-loop μ-loop
+loop-again c =
+    let l = c .before .before .loop in
+    let a = c .before .before .before .before .args in (
+      simp length-set (l .inv .0),
+      read-turn 4 (field 4 0) 64 (l .i) (a .at) (l .a) (a .b .now) (c .get-u32 .result) (omega arith) (omega (arith, l .inv .0))
+          (c .get-u32 .ensures) ∙ l .inv .1,
+    )
+
+returns : tie.Need-returns Inv-loop μ-loop
+unfolding pagesIn
+returns c =
+    let l = c .before .loop in
+    let a = c .before .before .before .args in
+    sym (read-end 4 (field 4 0) 64 (l .i) (l .a) (drop (a .at + 4 * l .i) (a .b .now)) (omega arith) (l .inv .0)) ∙ l .inv .1
+
+pub pages-in-spec : {M : Type 1} → statement M
+pages-in-spec =
+    tie.close
+    (tie.spec
+    Inv-loop
+    μ-loop
+    loop-holds
+    mul-get-u32
+    add-get-u32
+    get-u32-requires
+    mul-a
+    array-write-a
+    add-i
+    loop-less
+    loop-again
+    returns)

@@ -1,0 +1,82 @@
+-- `packs::put_entries` meets its contract: storing what is left gives what was asked for. The measure is how many are left. Assumes nothing.
+use mathlib.Core.Path.{_≡_, refl, sym, _∙_}
+use Prim.Native.Nat.{_+_, _-_, _*_}
+use native.Mathlib.Omega.{arith}
+use borrow.Author.Needs.{needs}
+use lib.ListN.{length, drop}
+use lib.Seq.{sets}
+use Rattle.sorted.proofs.Laws.{length-of-mapped}
+use Rattle.table.specs.Entries.{blank}
+use Rattle.packs.specs.Packs.{laidAll, entryBytes}
+use Rattle.packs.proofs.Laws.{length-entry, laid-turn, laid-end}
+use Rattle.packs.proofs.put_entries.Statement.{statement}
+use Rattle.packs.proofs.put_entries.Tie as tie
+
+abbrev Inv-loop : tie.InvT-loop
+Inv-loop b₀ entries i₀ b i =
+    (length b ≡ length b₀) × (sets b (56 + 24 * i) (laidAll entryBytes (drop i entries)) ≡ sets b₀ 56 (laidAll entryBytes entries))
+
+abbrev μ-loop : tie.MeasureT-loop
+μ-loop b₀ entries i₀ b i = 256 - i
+
+loop-holds : tie.Need-loop-holds Inv-loop μ-loop
+loop-holds c = (refl, refl)
+
+mul-e : tie.Need-mul-e Inv-loop μ-loop
+mul-e c = search needs
+
+array-copy-out-e : tie.Need-array-copy-out-e Inv-loop μ-loop
+array-copy-out-e c = search needs
+
+mul-put-entry : tie.Need-mul-put-entry Inv-loop μ-loop
+mul-put-entry c = search needs
+
+add-put-entry : tie.Need-add-put-entry Inv-loop μ-loop
+add-put-entry c = search needs
+
+put-entry-requires : tie.Need-put-entry-requires Inv-loop μ-loop
+put-entry-requires c κs = search needs
+
+add-i : tie.Need-add-i Inv-loop μ-loop
+add-i c = search needs
+
+loop-less : tie.Need-loop-less Inv-loop μ-loop
+loop-less c = search needs
+
+loop-again : tie.Need-loop-again Inv-loop μ-loop
+loop-again c =
+    let k = c .before .before in
+    let l = k .before .before .before .before .loop in
+    let a = k .before .before .before .before .before .before .args in
+    let len : length (a .t2) ≡ 256 = search (needs, length-of-mapped) in (
+      k .put-entry .kept .0 ∙ l .inv .0,
+      laid-turn entryBytes 24 length-entry (a .t2) blank 56 (l .i) (l .b) _ (omega arith) (k .put-entry .ensures) ∙ l .inv .1,
+    )
+
+same-length : tie.Need-same-length Inv-loop μ-loop
+same-length c = c .before .loop .inv .0
+
+returns : tie.Need-returns Inv-loop μ-loop
+returns c =
+    let l = c .before .loop in
+    let a = c .before .before .before .args in
+    let len : length (a .t2) ≡ 256 = search (needs, length-of-mapped) in
+    sym (laid-end entryBytes 24 length-entry (a .t2) (56 + 24 * l .i) (l .i) (l .b) (omega arith)) ∙ l .inv .1
+
+pub put-entries-spec : {M : Type 1} → statement M
+put-entries-spec =
+    tie.close
+    (tie.spec
+    Inv-loop
+    μ-loop
+    loop-holds
+    mul-e
+    array-copy-out-e
+    mul-put-entry
+    add-put-entry
+    put-entry-requires
+    add-i
+    loop-less
+    loop-again
+    same-length
+    returns)
