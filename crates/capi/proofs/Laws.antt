@@ -1,14 +1,11 @@
--- Laws of a hosted call: no store stands in the buffer, or the call is made and what it leaves is packed. Assumes nothing.
-use mathlib.Core.Path.{_≡_, refl, sym, ap, _∙_}
+-- Laws of an opening for a host, and of what is told of a store in a host's buffer: no store stands there, or it is told. Assumes nothing.
+use mathlib.Core.Path.{_≡_, sym, ap, _∙_}
 use mathlib.Core.List.{List, append-nil}
-use mathlib.Core.Bool.{Bool, cond}
 use Prim.Native.Nat.{ℕ, _≤_, _<_}
 use borrow.Author.Tests.{eq-eqb, ne-eqb, lt-ltb, le-ltb}
 use lib.ListN.{length, getD}
-use lib.Dec.{eqb}
-use Rattle.form.specs.declared.Store.{Store}
 use Rattle.form.specs.declared.Changed.{Changed}
-use Rattle.form.specs.Store.{Outcome, outcome, Given, given}
+use Rattle.form.specs.Store.{Given}
 use Rattle.world.specs.declared.Lens.{Lens}
 use Rattle.opening.specs.declared.Opened.{Opened}
 use Rattle.opening.specs.Opening.{verdictTold, openedAs, opened}
@@ -18,41 +15,10 @@ use Rattle.quiet.specs.declared.EntryAt.{EntryAt}
 use Rattle.quiet.specs.declared.EntryAt.the-variants.{Is}
 use Rattle.quiet.specs.declared.EntryRead.{EntryRead}
 use Rattle.quiet.specs.Entries.{entriesCounted, entriesIn, EntryTold, entryTold, entryRead}
-use Rattle.quiet.specs.Handed.{pageRead}
 use lib.Seq.{sets}
 use Rattle.packs.specs.Packs.{laidAll, entryBytes, Packing, packing, packedInto, unpacked}
-use Rattle.capi.specs.Hosted.{Ended, ended, repacked, hosted, Handed, handed, hostedRead, hostedCount, hostedOpen, hostedEntry}
-
-module _ (f : Store → List ℕ → List ℕ → List ℕ → List ℕ → Outcome) (b log db clog frames : List ℕ) (u : Changed) (e : u ≡ unpacked b) where
-  pub hosted-no : (u .number ≡ 0 → ⊥) → ended (u .number) b log db clog frames ≡ hosted f b log db clog frames
-  unfolding hosted
-  hosted-no h = rw (← e, ne-eqb (u .number) 0 h)
-
-  pub hosted-on : u .number ≡ 0 → (r : Changed) (n : ℕ) (b₁ log₁ db₁ clog₁ frames₁ : List ℕ)
-      → outcome r log₁ db₁ clog₁ frames₁ ≡ f (u .store) log db clog frames
-      → packing n b₁ ≡ packing (r .number) (packedInto (r .store) b .bytes) → ended n b₁ log₁ db₁ clog₁ frames₁ ≡ hosted f b log db clog frames
-  unfolding hosted repacked
-  hosted-on h r n b₁ log₁ db₁ clog₁ frames₁ p q =
-      let s : ended n b₁ log₁ db₁ clog₁ frames₁ ≡ repacked b (outcome r log₁ db₁ clog₁ frames₁) =
-      ap (λ (k : Packing). ended (k .number) (k .bytes) log₁ db₁ clog₁ frames₁) q in
-      s ∙ ap (repacked b) p ∙ rw (← e, eq-eqb (u .number) 0 h)
-
--- ---- what is handed out beside it
-
-module _ (P page : ℕ) (old b log db clog frames : List ℕ) (u : Changed) (e : u ≡ unpacked b) where
-  pub read-no : (u .number ≡ 0 → ⊥) → handed old (ended (u .number) b log db clog frames) ≡ hostedRead P page old b log db clog frames
-  unfolding hostedRead
-  read-no h = rw (← e, ne-eqb (u .number) 0 h)
-
-  pub read-on : u .number ≡ 0 → (r : Changed) (n : ℕ) (bytes out b₁ log₁ db₁ clog₁ frames₁ : List ℕ)
-      → given bytes r log₁ db₁ clog₁ frames₁ ≡ pageRead P page (u .store) log db clog frames
-      → out ≡ sets old 0 bytes → packing n b₁ ≡ packing (r .number) (packedInto (r .store) b .bytes)
-      → handed out (ended n b₁ log₁ db₁ clog₁ frames₁) ≡ hostedRead P page old b log db clog frames
-  unfolding hostedRead repacked
-  read-on h r n bytes out b₁ log₁ db₁ clog₁ frames₁ p o q =
-      let s : handed out (ended n b₁ log₁ db₁ clog₁ frames₁) ≡ handed (sets old 0 bytes) (repacked b (outcome r log₁ db₁ clog₁ frames₁)) =
-      rw o (ap (λ (k : Packing). handed (sets old 0 bytes) (ended (k .number) (k .bytes) log₁ db₁ clog₁ frames₁)) q) in
-      s ∙ ap (λ (g : Given (List ℕ)). handed (sets old 0 (g .value)) (repacked b (g .outcome))) p ∙ rw (← e, eq-eqb (u .number) 0 h)
+use Rattle.packs.specs.Hosted.{ended, Handed, handed}
+use Rattle.capi.specs.Hosted.{hostedCount, hostedOpen, hostedEntry}
 
 module _ (P : ℕ) (b log db clog frames : List ℕ) (u : Changed) (e : u ≡ unpacked b) where
   pub count-no : (u .number ≡ 0 → ⊥) → record { number = u .number; entries = 0 } ≡ hostedCount P b log db clog frames
@@ -64,6 +30,12 @@ module _ (P : ℕ) (b log db clog frames : List ℕ) (u : Changed) (e : u ≡ un
   count-on h n p = p ∙ rw (← e, eq-eqb (u .number) 0 h)
 
 module _ (P : ℕ) (lens : Lens) (old : ℕ) (b log db clog frames : List ℕ) where
+  -- what a host gets of an opening
+  abbrev openBy : Given (List ℕ) → Handed ℕ
+  openBy g =
+      let o = g .outcome in
+      handed (getD (g .value) 0 0) (ended (o .number) (packedInto (o .store) b .bytes) (o .log) (o .db) (o .clog) (o .frames))
+
   pub open-short : length b < 6748 → handed old (ended 14 b log db clog frames) ≡ hostedOpen P lens old b log db clog frames
   unfolding hostedOpen
   open-short h = rw (lt-ltb (length b) 6748 h)
@@ -71,16 +43,16 @@ module _ (P : ℕ) (lens : Lens) (old : ℕ) (b log db clog frames : List ℕ) w
   pub open-on : 6748 ≤ length b → (o : Opened) (number n told : ℕ) (b₁ log₁ db₁ clog₁ frames₁ : List ℕ)
       → openedAs o log₁ db₁ clog₁ frames₁ ≡ opened P lens log db clog frames
       → number ≡ verdictTold (o .verdict) .number → told ≡ getD (verdictTold (o .verdict) .values) 0 0
-      → packing n b₁ ≡ packing number (packedInto (o .store) b .bytes)
-      → handed told (ended n b₁ log₁ db₁ clog₁ frames₁) ≡ hostedOpen P lens old b log db clog frames
-  unfolding hostedOpen repacked
+      → packing n b₁ ≡ packedInto (o .store) b
+      → handed told (ended number b₁ log₁ db₁ clog₁ frames₁) ≡ hostedOpen P lens old b log db clog frames
+  unfolding hostedOpen
   open-on h o number n told b₁ log₁ db₁ clog₁ frames₁ p v t q =
       let g : Given (List ℕ) = openedAs o log₁ db₁ clog₁ frames₁ in
-      let s : handed told (ended n b₁ log₁ db₁ clog₁ frames₁) ≡ handed (getD (g .value) 0 0) (repacked b (g .outcome)) =
-      ap (λ (k : Packing). handed told (ended (k .number) (k .bytes) log₁ db₁ clog₁ frames₁)) q
+      let s : handed told (ended number b₁ log₁ db₁ clog₁ frames₁) ≡ openBy g =
+      ap (λ (k : Packing). handed told (ended number (k .bytes) log₁ db₁ clog₁ frames₁)) q
       ∙ ap (λ (k : ℕ). handed told (ended k (packedInto (o .store) b .bytes) log₁ db₁ clog₁ frames₁)) v
       ∙ ap (λ (k : ℕ). handed k (ended (verdictTold (o .verdict) .number) (packedInto (o .store) b .bytes) log₁ db₁ clog₁ frames₁)) t in
-      s ∙ ap (λ (k : Given (List ℕ)). handed (getD (k .value) 0 0) (repacked b (k .outcome))) p ∙ rw (le-ltb (length b) 6748 h)
+      s ∙ ap openBy p ∙ rw (le-ltb (length b) 6748 h)
 
 -- the bytes of one entry
 pub entry-out : (x : Entry) (at : EntryAt) (b out : List ℕ) → at ≡ Is x → out ≡ sets b 0 (entryBytes x) → out ≡ sets b 0 (laidAll entryBytes (entriesIn at))

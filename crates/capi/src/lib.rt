@@ -2,28 +2,19 @@
 // Each function reads the store, makes the call and packs what it leaves; the answer is the call's number. A slice is a pointer and a length to the host.
 use fields::TransactionId;
 use fields::numbers;
-use form::Changed;
 use opening::Verdict;
 use quiet::EntryAt;
 use world::Lens;
 ghost use mathlib.Core.Path.{_≡_};
 ghost use lib.ListN.{getD};
 ghost use lib.Seq.{sets};
-ghost use Rattle.world.specs.Calls.{Begin, Flush, Commit, Rollback, Advance, Write};
+ghost use Rattle.world.specs.Calls.{Begin, Flush, Commit, Rollback, Advance};
 ghost use Rattle.opening.specs.Opening.{verdictTold};
 ghost use Rattle.form.specs.Store.{called};
-ghost use Rattle.packs.specs.Packs.{laidAll, entryBytes, packing, packedInto};
+ghost use Rattle.packs.specs.Packs.{laidAll, entryBytes, packing};
+ghost use Rattle.packs.specs.Hosted.{ended, hosted, handed};
 ghost use Rattle.quiet.specs.Entries.{entriesIn};
-ghost use Rattle.capi.specs.Hosted.{ended, hosted, handed, hostedOpen, hostedRead, hostedCount, hostedEntry};
-
-// The store that a call leaves goes back into its buffer, and the call's number to the host.
-fn keep(r: Changed, out: &mut [u8]) -> u8
-    ensures { λ n. ⌜ packing n (now (out .exit)) ≡ packing (r .number) (packedInto (r .store) (now (out .entry)) .bytes) ⌝ }
-{
-    let s = r.store;
-    let _done = packs::pack(s, out);
-    r.number
-}
+ghost use Rattle.capi.specs.Hosted.{hostedOpen, hostedCount, hostedEntry};
 
 #[no_mangle]
 pub extern "C" fn pager_begin(
@@ -42,7 +33,7 @@ pub extern "C" fn pager_begin(
     }
     let s = u.store;
     let r = calls::begin(s, TransactionId(id), log, db, clog, frames);
-    keep(r, store)
+    packs::keep(r, store)
 }
 
 #[no_mangle]
@@ -62,7 +53,7 @@ pub extern "C" fn pager_flush(
     }
     let s = u.store;
     let r = calls::flush(s, page, log, db, clog, frames);
-    keep(r, store)
+    packs::keep(r, store)
 }
 
 #[no_mangle]
@@ -81,7 +72,7 @@ pub extern "C" fn pager_commit(
     }
     let s = u.store;
     let r = settle::commit(s, log, db, clog, frames);
-    keep(r, store)
+    packs::keep(r, store)
 }
 
 #[no_mangle]
@@ -101,7 +92,7 @@ pub extern "C" fn pager_rollback(
     }
     let s = u.store;
     let r = settle::rollback(s, list, log, db, clog, frames);
-    keep(r, store)
+    packs::keep(r, store)
 }
 
 #[no_mangle]
@@ -121,53 +112,7 @@ pub extern "C" fn pager_advance(
     }
     let s = u.store;
     let r = settle::advance(s, TransactionId(mark), log, db, clog, frames);
-    keep(r, store)
-}
-
-#[no_mangle]
-pub extern "C" fn pager_write_page(
-    store: &mut [u8],
-    page: u32,
-    bytes: &[u8; 4096],
-    log: &[u8],
-    db: &[u8],
-    clog: &[u8],
-    frames: &mut [u8],
-) -> u8
-    ensures { λ r. ⌜ ended r (now (store .exit)) (now (log .entry)) (now (db .entry)) (now (clog .entry)) (now (frames .exit)) ≡ hosted (called 4096 (Write page (now (bytes .entry)))) (now (store .entry)) (now (log .entry)) (now (db .entry)) (now (clog .entry)) (now (frames .entry)) ⌝ }
-{
-    let u = packs::unpack(&store[..]);
-    if u.number != numbers::ACCEPTED {
-        return u.number;
-    }
-    let s = u.store;
-    let r = quiet::write_page(s, page, bytes, log, db, clog, frames);
-    keep(r, store)
-}
-
-// The page's bytes go over the front of out.
-#[no_mangle]
-pub extern "C" fn pager_read_page(
-    store: &mut [u8],
-    page: u32,
-    out: &mut [u8],
-    log: &[u8],
-    db: &[u8],
-    clog: &[u8],
-    frames: &mut [u8],
-) -> u8
-    ensures { λ r. ⌜ handed (now (out .exit)) (ended r (now (store .exit)) (now (log .entry)) (now (db .entry)) (now (clog .entry)) (now (frames .exit))) ≡ hostedRead 4096 page (now (out .entry)) (now (store .entry)) (now (log .entry)) (now (db .entry)) (now (clog .entry)) (now (frames .entry)) ⌝ }
-{
-    let u = packs::unpack(&store[..]);
-    if u.number != numbers::ACCEPTED {
-        return u.number;
-    }
-    let s = u.store;
-    let p = quiet::read_page(s, page, log, db, clog, frames);
-    let bytes = p.bytes;
-    fields::copy(out, &bytes[..]);
-    let r = p.changed;
-    keep(r, store)
+    packs::keep(r, store)
 }
 
 #[no_mangle]
@@ -278,6 +223,6 @@ pub extern "C" fn pager_open(
     let number = number_of(verdict);
     *told = length_of(verdict);
     let s = o.store;
-    let r = Changed { number, store: s };
-    keep(r, store)
+    let _done = packs::pack(s, store);
+    number
 }

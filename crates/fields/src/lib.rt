@@ -5,7 +5,7 @@ pub mod numbers;
 
 ghost use mathlib.Core.Path.{_≡_};
 ghost use Prim.Native.Nat.{_-_, _^_, _≤_, _<_, min, max};
-ghost use lib.ListN.{take, drop, replicate};
+ghost use lib.ListN.{length, take, drop, replicate};
 ghost use lib.Seq.{sets};
 ghost use Rattle.fields.specs.Bytes.{leOf, bytesOf, starts};
 ghost use Rattle.fields.specs.Files.{unfit};
@@ -72,13 +72,13 @@ fn inside(len: usize, at: usize, n: usize) -> usize
     if left < n { left } else { n }
 }
 
-// The number in the n bytes from `at` on, the last byte first.
-fn get(b: &[u8], at: usize, n: usize) -> u64
-    requires { ⌜ n ≤ 8 ⌝ }
+// The number in the n bytes from `at` on, of which the first k lie inside; the last byte first.
+fn digits(b: &[u8], at: usize, n: usize, k: usize) -> u64
+    requires { ⌜ (n ≤ 8) × (k ≡ min n (length (now b) - at)) ⌝ }
     ensures { λ r. ⌜ (r ≡ leOf (take n (drop at (now (b .entry))))) × (r < 256 ^ n) ⌝ }
 {
     let mut v: u64 = 0;
-    let mut i = inside(b.len(), at, n);
+    let mut i = k;
     while 0 < i {
         i -= 1;
         v = v * 256 + wide(b[at + i]);
@@ -86,11 +86,26 @@ fn get(b: &[u8], at: usize, n: usize) -> u64
     v
 }
 
-// The n low bytes of v, from `at` on.
-fn put(b: &mut [u8], at: usize, n: usize, v: u64)
+// A number that lies inside is read by a loop of known length, which becomes one load.
+fn get(b: &[u8], at: usize, n: usize) -> u64
+    requires { ⌜ n ≤ 8 ⌝ }
+    ensures { λ r. ⌜ (r ≡ leOf (take n (drop at (now (b .entry))))) × (r < 256 ^ n) ⌝ }
+{
+    let len = b.len();
+    if at <= len {
+        if n <= len - at {
+            return digits(b, at, n, n);
+        }
+    }
+    let k = inside(len, at, n);
+    digits(b, at, n, k)
+}
+
+// The n low bytes of v, from `at` on, of which the first k lie inside.
+fn put_digits(b: &mut [u8], at: usize, n: usize, k: usize, v: u64)
+    requires { ⌜ k ≡ min n (length (now b) - at) ⌝ }
     ensures { λ _. ⌜ now (b .exit) ≡ sets (now (b .entry)) at (bytesOf n v) ⌝ }
 {
-    let k = inside(b.len(), at, n);
     let mut rest = v;
     let mut i = 0;
     while i < k {
@@ -98,6 +113,21 @@ fn put(b: &mut [u8], at: usize, n: usize, v: u64)
         rest = rest / 256;
         i += 1;
     }
+}
+
+// As in get, the usual way is one store.
+fn put(b: &mut [u8], at: usize, n: usize, v: u64)
+    ensures { λ _. ⌜ now (b .exit) ≡ sets (now (b .entry)) at (bytesOf n v) ⌝ }
+{
+    let len = b.len();
+    if at <= len {
+        if n <= len - at {
+            put_digits(b, at, n, n, v);
+            return;
+        }
+    }
+    let k = inside(len, at, n);
+    put_digits(b, at, n, k, v);
 }
 
 pub fn get_u32(b: &[u8], at: usize) -> u32

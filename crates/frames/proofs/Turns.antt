@@ -1,16 +1,30 @@
 -- What a turn of a loop over the front part of an array does: es is the array, n how many of its pages are held, and `drop i (take n es)` is what is left of
 -- them at turn i. Assumes nothing.
-use mathlib.Core.Path.{_≡_}
+use mathlib.Core.Path.{_≡_, refl}
 use mathlib.Core.List.{List, [], _∷_}
-use mathlib.Core.Bool.{true, false}
+use mathlib.Core.Bool.{Bool, true, false, _||_}
 use Prim.Native.Nat.{ℕ, _+_, _≤_, _<_, min}
 use native.Mathlib.Omega.{arith}
 use borrow.Author.Tests.{eq-eqb, ne-eqb, le-leb, lt-leb}
+use lib.Dec.{eqb}
 use lib.ListN.{length, take, drop, getD}
 use Rattle.sorted.proofs.Laws.{front, done}
 use Rattle.frames.specs.Pages.{isIn, slotOf, distinct, anyBad, foundIn}
 
+pub or-true : (a : Bool) → (a || true) ≡ true
+or-true true = refl
+or-true false = refl
+
+or-assoc : (a b c : Bool) → ((a || b) || c) ≡ (a || (b || c))
+or-assoc true b c = refl
+or-assoc false b c = refl
+
 module _ (es : List ℕ) (n i : ℕ) where
+  pub in-turn : (p : ℕ) (found r : Bool) → r ≡ (found || eqb (getD es i 0) p) → i < n → i < length es →
+      (r || isIn p (drop (i + 1) (take n es))) ≡ (found || isIn p (drop i (take n es)))
+  unfolding isIn
+  in-turn p found r e a b = rw (e, front es n i 0 a b) (or-assoc found (eqb (getD es i 0) p) _)
+
   pub in-here : (p : ℕ) → getD es i 0 ≡ p → i < n → i < length es → isIn p (drop i (take n es)) ≡ true
   unfolding isIn
   in-here p h a b = rw (front es n i 0 a b, eq-eqb (getD es i 0) p h)

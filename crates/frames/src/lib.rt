@@ -6,7 +6,9 @@ use fields::numbers;
 ghost use mathlib.Core.Path.{_≡_};
 ghost use Prim.Native.Nat.{_≤_, _<_, _+_, _-_, _*_, min};
 ghost use mathlib.Core.List.{_∷_, _++_};
-ghost use lib.ListN.{take, drop};
+ghost use mathlib.Core.Bool.{_||_};
+ghost use lib.ListN.{length, take, drop};
+ghost use lib.Dec.{eqb};
 ghost use lib.Seq.{sets};
 ghost use Rattle.fields.specs.Bytes.{part};
 ghost use Rattle.fields.specs.Files.{fileOf};
@@ -85,28 +87,38 @@ fn frame_count(size: usize) -> usize
 
 // ---- lists of page numbers
 
-// Whether the page stands among the first n, from `from` on.
-fn is_in(pages: [u32; 64], from: usize, n: usize, page: u32) -> bool
-    requires { ⌜ n ≤ 64 ⌝ }
-    ensures { λ r. ⌜ r ≡ isIn page (drop from (take n pages)) ⌝ }
+// Whether a page was found before, or is this one.
+fn found_or(found: bool, x: u32, page: u32) -> bool
+    ensures { λ r. ⌜ r ≡ (found || eqb x page) ⌝ }
 {
+    if x == page {
+        return true;
+    }
+    found
+}
+
+// Whether the page stands among the first n, from `from` on. The loop has no early way out, so that several pages are compared at once.
+fn is_in(pages: &[u32], from: usize, n: usize, page: u32) -> bool
+    requires { ⌜ n ≤ length (now pages) ⌝ }
+    ensures { λ r. ⌜ r ≡ isIn page (drop from (take n (now (pages .entry)))) ⌝ }
+{
+    let mut found = false;
     let mut i = from;
     while i < n {
-        if pages[i] == page {
-            return true;
-        }
+        found = found_or(found, pages[i], page);
         i += 1;
     }
-    false
+    found
 }
 
 fn are_distinct(pages: [u32; 64], n: usize) -> bool
     requires { ⌜ n ≤ 64 ⌝ }
     ensures { λ r. ⌜ r ≡ distinct (take n pages) ⌝ }
 {
+    let all = &pages[..];
     let mut i = 0;
     while i < n {
-        if is_in(pages, i + 1, n, pages[i]) {
+        if is_in(all, i + 1, n, all[i]) {
             return false;
         }
         i += 1;
@@ -182,7 +194,7 @@ pub fn seat(f: Frames, size: usize, page: u32) -> Seated
 {
     let n = held(f.count);
     let pages = f.pages;
-    if is_in(pages, 0, n, page) {
+    if is_in(&pages[..], 0, n, page) {
         return Seated {
             number: numbers::ACCEPTED,
             frames: f,
@@ -228,7 +240,7 @@ pub fn is_marked(t: Touched, page: u32) -> bool
 {
     let n = held(t.count);
     let pages = t.pages;
-    is_in(pages, 0, n, page)
+    is_in(&pages[..], 0, n, page)
 }
 
 // How many pages come before the first that is not below this one.
@@ -323,15 +335,23 @@ fn fill_page(b: &mut [u8], db: &[u8], len: usize, page: u32)
     fields::zero_fill(b, 0, numbers::PAGE_SIZE);
 }
 
+// The bytes of a frame over the front of b; zeros for a slot past the end. Whether it is past is tested before its place is worked out, which could overflow.
+pub fn copy_frame(b: &mut [u8], buf: &[u8], slot: usize)
+    ensures { λ _. ⌜ now (b .exit) ≡ sets (now (b .entry)) 0 (part 4096 (now (buf .entry)) (slot * 4096)) ⌝ }
+{
+    if buf.len() / numbers::PAGE_SIZE < slot {
+        fields::zero_fill(b, 0, numbers::PAGE_SIZE);
+        return;
+    }
+    fill_part(b, buf, slot * numbers::PAGE_SIZE);
+}
+
 // The bytes of a frame.
 pub fn frame_of(buf: &[u8], slot: usize) -> [u8; 4096]
     ensures { λ r. ⌜ r ≡ part 4096 (now (buf .entry)) (slot * 4096) ⌝ }
 {
     let mut bytes = [0; 4096];
-    if buf.len() / numbers::PAGE_SIZE < slot {
-        return bytes;
-    }
-    fill_part(&mut bytes[..], buf, slot * numbers::PAGE_SIZE);
+    copy_frame(&mut bytes[..], buf, slot);
     bytes
 }
 

@@ -1,23 +1,73 @@
 -- Laws of packing and reading: how long the parts are, what a turn of each loop does, and the parts one after the other. Assumes nothing.
-use mathlib.Core.Bool.{Bool, true, false}
+use mathlib.Core.Bool.{Bool, true, false, cond}
 use mathlib.Core.Path.{_≡_, refl, sym, ap, _∙_}
 use mathlib.Core.List.{List, [], _∷_, _++_, append-nil, append-assoc}
-use Prim.Native.Nat.{ℕ, zero, suc, _+_, _-_, _*_, _≤_, _<_}
+use Prim.Native.Nat.{ℕ, zero, suc, _+_, _-_, _*_, _≤_, _<_, min}
 use native.Mathlib.Omega.{arith}
 use native.Mathlib.Numerals.{add-one}
-use lib.ListN.{length, take, drop, getD, set, length-append, drop-of-length-le}
+use lib.ListN.{length, take, drop, getD, set, replicate, length-append, length-take, length-replicate, take-append-drop, drop-of-length-le}
 use lib.Dec.{ltb}
 use borrow.Author.Tests.{lt-ltb, le-ltb}
-use lib.Seq.{sets, drop-cons, drop-drop, take-suc-set, append-snoc, take-all}
+use lib.Seq.{sets, drop-cons, drop-drop, take-suc-set, take-all, getD-take, drop-set-lt}
 use Rattle.fields.specs.Bytes.{leOf, bytesOf}
 use Rattle.fields.proofs.ByteLaws.{length-bytesOf}
 use Rattle.fields.proofs.Stored.{sets-append, laid-next}
 use Rattle.table.specs.declared.Entry.{Entry}
-use Rattle.table.specs.declared.Table.{Table}
+use Rattle.table.specs.Entries.{blank, emptyTable}
 use Rattle.world.specs.declared.Slot.{Slot}
+use Rattle.form.specs.declared.Held.{Held}
 use Rattle.form.specs.declared.Store.{Store}
 use Rattle.form.proofs.Arrays.{Sized}
-use Rattle.packs.specs.Packs.{laidAll, readAll, field, unknownTag, three, entryBytes, tableBytes, pagesBytes, slotBytes, slotTag, slotId, slotIn, packed, pagesIn, framesIn, heldIn}
+use Rattle.form.specs.declared.Changed.{Changed}
+use Rattle.packs.specs.Packs.{
+  laidAll,
+  readAll,
+  readHeld,
+  field,
+  unknownTag,
+  three,
+  entryBytes,
+  heldBytes,
+  slotBytes,
+  frontBytes,
+  transactionBytes,
+  slotTag,
+  slotId,
+  slotIn,
+  packed,
+  packedInto,
+  keptIn,
+  pagesIn,
+  entryIn,
+  tableIn,
+  framesIn,
+  heldIn,
+  storeIn,
+  unreadable,
+  blankStore,
+  unpacked,
+}
+
+-- ---- the first of a list
+
+pub first-min : {A : Type 0} (n count : ℕ) (xs : List A) → n ≡ min count (length xs) → take n xs ≡ take count xs
+first-min zero zero xs e = refl
+first-min zero (suc c) [] e = refl
+first-min zero (suc c) (x ∷ xs) e = absurd (omega (arith, e))
+first-min (suc n) zero xs e = absurd (omega (arith, e))
+first-min (suc n) (suc c) [] e = refl
+first-min (suc n) (suc c) (x ∷ xs) e = ap (λ (t : List _). x ∷ t) (first-min n c xs (omega (arith, e)))
+
+pub drop-replicate : {A : Type 0} (n m : ℕ) (d : A) → drop n (replicate m d) ≡ replicate (m - n) d
+drop-replicate zero m d =
+    let e : m - 0 ≡ m = omega arith in
+    rw e
+drop-replicate (suc n) zero d =
+    let e : 0 - suc n ≡ 0 = omega arith in
+    rw e
+drop-replicate (suc n) (suc m) d =
+    let e : suc m - suc n ≡ m - n = omega arith in
+    rw e (drop-replicate n m d)
 
 -- ---- how long the parts are
 
@@ -27,17 +77,27 @@ module _ {A : Type 0} (g : A → List ℕ) (w : ℕ) (size : (x : A) → length 
   length-all [] = omega arith
   length-all (x ∷ xs) = rw (length-append, size x, length-all xs) (omega arith)
 
-  -- a turn of a loop that stores, and its end
-  pub laid-turn : (xs : List A) (d : A) (at i : ℕ) (b b₁ : List ℕ) → i < length xs → b₁ ≡ sets b (at + w * i) (g (getD xs i d))
-      → sets b₁ (at + w * (i + 1)) (laidAll g (drop (i + 1) xs)) ≡ sets b (at + w * i) (laidAll g (drop i xs))
+  -- a turn of a loop that stores the first n of an array, and its end
+  pub laid-turn : (ys : List A) (d : A) (n at i : ℕ) (b b₁ : List ℕ) → i < n → n ≤ length ys → b₁ ≡ sets b (at + w * i) (g (getD ys i d))
+      → sets b₁ (at + w * (i + 1)) (laidAll g (drop (i + 1) (take n ys))) ≡ sets b (at + w * i) (laidAll g (drop i (take n ys)))
   unfolding laidAll
-  laid-turn xs d at i b b₁ h e =
+  laid-turn ys d n at i b b₁ h k e =
       let p : at + w * (i + 1) ≡ at + w * i + w = omega arith in
-      rw (p, add-one, drop-cons xs i d h, sets-append, size (getD xs i d), ← e)
+      let len : i < length (take n ys) = rw (length-take n ys) (omega arith) in
+      rw (p, add-one, drop-cons (take n ys) i d len, sets-append, getD-take n ys i d h, size (getD ys i d), ← e)
 
-  pub laid-end : (xs : List A) (at i : ℕ) (b : List ℕ) → length xs ≤ i → sets b at (laidAll g (drop i xs)) ≡ b
+  pub laid-end : (ys : List A) (n at i : ℕ) (b : List ℕ) → n ≤ i → sets b at (laidAll g (drop i (take n ys))) ≡ b
   unfolding laidAll
-  laid-end xs at i b h = rw (drop-of-length-le xs h)
+  laid-end ys n at i b h = rw (drop-of-length-le (take n ys) {i = i} (rw (length-take n ys) (omega arith)))
+
+  -- a count, and the first that many: the smaller of count and places is what is stored
+  pub held-laid : (count n m at : ℕ) (ys : List A) (b b₁ b₂ : List ℕ) → n ≡ min count m → length ys ≡ m → b₁ ≡ sets b at (bytesOf 8 count)
+      → b₂ ≡ sets b₁ (at + 8) (laidAll g (take n ys))
+      → b₂ ≡ sets b at (heldBytes g count ys)
+  unfolding heldBytes
+  held-laid count n m at ys b b₁ b₂ k z p q =
+      let e : take n ys ≡ take count ys = first-min n count ys (k ∙ ap (min count) (sym z)) in
+      laid-next at (at + 8) (bytesOf 8 count) _ b b₁ b₂ (rw length-bytesOf) p (rw (← e) q)
 
 pub length-three : (x y z : ℕ) → length (three x y z) ≡ 24
 unfolding three
@@ -47,36 +107,9 @@ pub length-entry : (e : Entry) → length (entryBytes e) ≡ 24
 unfolding entryBytes
 length-entry e = length-three _ _ _
 
-pub length-table : (t : Table) → length (t .entries) ≡ 256 → length (tableBytes t) ≡ 6152
-unfolding tableBytes
-length-table t h = rw (length-append, length-bytesOf, length-all entryBytes 24 length-entry (t .entries), h)
-
-pub length-pages : (n : ℕ) (ps : List ℕ) → length ps ≡ 64 → length (pagesBytes n ps) ≡ 264
-unfolding pagesBytes
-length-pages n ps h = rw (length-append, length-bytesOf, length-all (bytesOf 4) 4 (length-bytesOf 4) ps, h)
-
 pub length-slot : (s : Slot) → length (slotBytes s) ≡ 16
 unfolding slotBytes
 length-slot s = rw (length-append, length-bytesOf 8 (slotTag s), length-bytesOf 8 (slotId s))
-
-pub length-packed : (s : Store) → Sized s → length (packed s) ≡ 6748
-unfolding packed
-length-packed s z =
-    rw (
-      length-append,
-      length-append,
-      length-append,
-      length-append,
-      length-append,
-      length-append,
-      length-three (s .lens .log) (s .lens .db) (s .lens .clog),
-      length-three (s .next .0) (s .time .0) (s .mark .0),
-      length-table (s .table) (z .entries),
-      length-pages (s .frames .count) (s .frames .pages) (z .pages),
-      length-slot,
-      length-pages (s .held .touched .count) (s .held .touched .pages) (z .touched),
-      length-bytesOf,
-    )
 
 -- ---- the parts one after the other
 
@@ -88,33 +121,28 @@ three-laid at x y z b b₁ b₂ b₃ p q r =
     laid-next at (at + 8) (bytesOf 8 x) _ b b₁ b₃ (rw length-bytesOf) p
     (laid-next (at + 8) (at + 16) (bytesOf 8 y) _ b₁ b₂ b₃ (rw length-bytesOf (omega arith)) q r)
 
-pub slot-laid : (s : Slot) (b b₁ b₂ : List ℕ) → b₁ ≡ sets b 6464 (bytesOf 8 (slotTag s)) → b₂ ≡ sets b₁ 6472 (bytesOf 8 (slotId s))
-    → b₂ ≡ sets b 6464 (slotBytes s)
+pub slot-laid : (at : ℕ) (s : Slot) (b b₁ b₂ : List ℕ) → b₁ ≡ sets b at (bytesOf 8 (slotTag s)) → b₂ ≡ sets b₁ (at + 8) (bytesOf 8 (slotId s))
+    → b₂ ≡ sets b at (slotBytes s)
 unfolding slotBytes
-slot-laid s b b₁ b₂ p q = laid-next 6464 6472 (bytesOf 8 (slotTag s)) _ b b₁ b₂ (rw length-bytesOf) p q
+slot-laid at s b b₁ b₂ p q = laid-next at (at + 8) (bytesOf 8 (slotTag s)) _ b b₁ b₂ (rw length-bytesOf) p q
 
-pub table-laid : (t : Table) (b b₁ b₂ : List ℕ) → b₁ ≡ sets b 48 (bytesOf 8 (t .count)) → b₂ ≡ sets b₁ 56 (laidAll entryBytes (t .entries))
-    → b₂ ≡ sets b 48 (tableBytes t)
-unfolding tableBytes
-table-laid t b b₁ b₂ p q = laid-next 48 56 (bytesOf 8 (t .count)) _ b b₁ b₂ (rw length-bytesOf) p q
+pub transaction-laid : (at : ℕ) (h : Held) (b b₁ b₂ : List ℕ) → b₁ ≡ sets b at (slotBytes (h .slot))
+    → b₂ ≡ sets b₁ (at + 16) (heldBytes (bytesOf 4) (h .touched .count) (h .touched .pages))
+    → b₂ ≡ sets b at (transactionBytes h)
+unfolding transactionBytes
+transaction-laid at h b b₁ b₂ p q = laid-next at (at + 16) (slotBytes (h .slot)) _ b b₁ b₂ (rw length-slot) p q
 
-pub pages-laid : (at n : ℕ) (ps b b₁ b₂ : List ℕ) → b₁ ≡ sets b at (bytesOf 8 n) → b₂ ≡ sets b₁ (at + 8) (laidAll (bytesOf 4) ps)
-    → b₂ ≡ sets b at (pagesBytes n ps)
-unfolding pagesBytes
-pages-laid at n ps b b₁ b₂ p q = laid-next at (at + 8) (bytesOf 8 n) _ b b₁ b₂ (rw length-bytesOf) p q
-
-pub store-laid : (s : Store) → Sized s → (l l₁ l₂ l₃ l₄ l₅ l₆ l₇ : List ℕ) → l₁ ≡ sets l 0 (three (s .lens .log) (s .lens .db) (s .lens .clog))
-    → l₂ ≡ sets l₁ 24 (three (s .next .0) (s .time .0) (s .mark .0)) → l₃ ≡ sets l₂ 48 (tableBytes (s .table))
-    → l₄ ≡ sets l₃ 6200 (pagesBytes (s .frames .count) (s .frames .pages)) → l₅ ≡ sets l₄ 6464 (slotBytes (s .held .slot))
-    → l₆ ≡ sets l₅ 6480 (pagesBytes (s .held .touched .count) (s .held .touched .pages)) → l₇ ≡ sets l₆ 6744 (bytesOf 4 (s .pages)) → l₇ ≡ sets l 0 (packed s)
-unfolding packed
-store-laid s z l l₁ l₂ l₃ l₄ l₅ l₆ l₇ p₁ p₂ p₃ p₄ p₅ p₆ p₇ =
-    laid-next 0 24 (three (s .lens .log) (s .lens .db) (s .lens .clog)) _ l l₁ l₇ (rw length-three) p₁
-    (laid-next 24 48 (three (s .next .0) (s .time .0) (s .mark .0)) _ l₁ l₂ l₇ (rw length-three) p₂
-    (laid-next 48 6200 (tableBytes (s .table)) _ l₂ l₃ l₇ (rw (length-table (s .table) (z .entries))) p₃
-    (laid-next 6200 6464 (pagesBytes (s .frames .count) (s .frames .pages)) _ l₃ l₄ l₇ (rw (length-pages (s .frames .count) (s .frames .pages) (z .pages))) p₄
-    (laid-next 6464 6480 (slotBytes (s .held .slot)) _ l₄ l₅ l₇ (rw length-slot) p₅
-    (laid-next 6480 6744 (pagesBytes (s .held .touched .count) (s .held .touched .pages)) _ l₅ l₆ l₇ (rw (length-pages (s .held .touched .count) (s .held .touched .pages) (z .touched))) p₆ p₇)))))
+module _ (s : Store) (l l₁ l₂ l₃ l₄ l₅ l₆ : List ℕ) where
+  pub store-laid : l₁ ≡ sets l 0 (three (s .lens .log) (s .lens .db) (s .lens .clog)) → l₂ ≡ sets l₁ 24 (three (s .next .0) (s .time .0) (s .mark .0))
+      → l₃ ≡ sets l₂ 48 (heldBytes entryBytes (s .table .count) (s .table .entries))
+      → l₄ ≡ sets l₃ 6200 (heldBytes (bytesOf 4) (s .frames .count) (s .frames .pages)) → l₅ ≡ sets l₄ 6464 (transactionBytes (s .held))
+      → l₆ ≡ sets l₅ 6744 (bytesOf 4 (s .pages)) → l₆ ≡ packed s l
+  unfolding packed frontBytes
+  store-laid p₁ p₂ p₃ p₄ p₅ p₆ =
+      let front : l₃ ≡ sets l 0 (frontBytes s) =
+      laid-next 0 24 (three (s .lens .log) (s .lens .db) (s .lens .clog)) _ l l₁ l₃ (rw length-three) p₁
+      (laid-next 24 48 (three (s .next .0) (s .time .0) (s .mark .0)) _ l₁ l₂ l₃ (rw length-three) p₂ p₃) in
+      p₆ ∙ rw (p₅, p₄, front)
 
 -- ---- reading: a turn of a loop, and its end
 
@@ -127,11 +155,29 @@ module _ {A : Type 0} (w : ℕ) (f : List ℕ → A) where
       let p : at + w * (i + 1) ≡ at + w * i + w = omega arith in
       rw (k, p, ← drop-drop w (at + w * i) b, add-one, take-suc-set a i x l, ← e) (append-assoc (take i a) (x ∷ []) _)
 
-  pub read-end : (n i : ℕ) (a : List A) (b : List ℕ) → n ≤ i → length a ≡ n → take i a ++ readAll w f (n - i) b ≡ a
+  -- the first n of an array are read, what stands after them stays
+  pub hold-start : (n at m : ℕ) (d : A) (a : List A) (b : List ℕ) → a ≡ replicate m d
+      → take 0 a ++ (readAll w f (n - 0) (drop (at + w * 0) b) ++ drop n a) ≡ readAll w f n (drop at b) ++ replicate (m - n) d
+  hold-start n at m d a b e =
+      let p : n - 0 ≡ n = omega arith in
+      let q : at + w * 0 ≡ at = omega arith in
+      rw (p, q, e, drop-replicate n m d)
+
+  pub hold-turn : (n i at : ℕ) (a : List A) (b : List ℕ) (x : A) → i < n → n ≤ length a → x ≡ f (drop (at + w * i) b)
+      → take (i + 1) (set a i x) ++ (readAll w f (n - (i + 1)) (drop (at + w * (i + 1)) b) ++ drop n (set a i x))
+      ≡ take i a ++ (readAll w f (n - i) (drop (at + w * i) b) ++ drop n a)
+  hold-turn n i at a b x h l e =
+      sym (append-assoc (take (i + 1) (set a i x)) _ (drop n (set a i x)))
+      ∙ ap (λ (t : List A). t ++ drop n (set a i x)) (read-turn n i at a b x h (omega arith) e)
+      ∙ ap (λ (t : List A). (take i a ++ readAll w f (n - i) (drop (at + w * i) b)) ++ t) (drop-set-lt n a i x h)
+      ∙ append-assoc (take i a) _ (drop n a)
+
+  pub hold-end : (n i : ℕ) (a : List A) (b : List ℕ) → n ≤ i → i ≤ n → take i a ++ (readAll w f (n - i) b ++ drop n a) ≡ a
   unfolding readAll
-  read-end n i a b h l =
-      let z : n - i ≡ 0 = omega arith in
-      rw (z, append-nil) (take-all i a (omega arith))
+  hold-end n i a b h k =
+      let e : i ≡ n = omega arith in
+      let z : n - n ≡ 0 = omega arith in
+      rw (e, z) (take-append-drop n a)
 
 -- ---- tags that are none
 
@@ -157,12 +203,74 @@ module _ (n i at : ℕ) (b : List ℕ) where
 
 -- ---- parts that are read where they stand
 
-pub frames-read : (at n : ℕ) (ps b : List ℕ) → n ≡ field 8 at b → ps ≡ pagesIn (drop (at + 8) b) → record { pages = ps; count = n } ≡ framesIn (drop at b)
-unfolding framesIn
-frames-read at n ps b p q = rw (p, q, drop-drop 8 at b)
+-- what is read of n places, n the smaller of the count and the places
+pub held-is : {A : Type 0} (d : A) (m w : ℕ) (f : List ℕ → A) (n count : ℕ) (b : List ℕ) (a : List A) → n ≡ min count m
+    → a ≡ readAll w f n b ++ replicate (m - n) d
+    → a ≡ readHeld d m w f count b
+unfolding readHeld
+held-is d m w f n count b a k e = rw (← k) e
 
-pub held-read : (at n : ℕ) (ps b : List ℕ) (s : Slot) → s ≡ slotIn (field 8 at b) (field 8 (at + 8) b) → n ≡ field 8 (at + 16) b
-    → ps ≡ pagesIn (drop (at + 24) b)
-    → record { slot = s; touched = record { pages = ps; count = n } } ≡ heldIn (drop at b)
+pub table-read : (at count n : ℕ) (b : List ℕ) (es : List Entry) → count ≡ field 8 at b → n ≡ min count 256
+    → es ≡ readAll 24 entryIn n (drop (at + 8) b) ++ replicate (256 - n) blank
+    → record { entries = es; count = count } ≡ tableIn (drop at b)
+unfolding tableIn
+table-read at count n b es p k q = rw (held-is blank 256 24 entryIn n count (drop (at + 8) b) es k q, p, drop-drop 8 at b)
+
+pub frames-read : (at count n : ℕ) (ps b : List ℕ) → count ≡ field 8 at b → n ≡ min count 64
+    → ps ≡ readAll 4 (field 4 0) n (drop (at + 8) b) ++ replicate (64 - n) 0
+    → record { pages = ps; count = count } ≡ framesIn (drop at b)
+unfolding framesIn
+frames-read at count n ps b p k q = rw (held-is 0 64 4 (field 4 0) n count (drop (at + 8) b) ps k q, p, drop-drop 8 at b)
+
+pub held-read : (at count n : ℕ) (ps b : List ℕ) (s : Slot) → s ≡ slotIn (field 8 at b) (field 8 (at + 8) b) → count ≡ field 8 (at + 16) b → n ≡ min count 64
+    → ps ≡ readAll 4 (field 4 0) n (drop (at + 24) b) ++ replicate (64 - n) 0
+    → record { slot = s; touched = record { pages = ps; count = count } } ≡ heldIn (drop at b)
 unfolding heldIn
-held-read at n ps b s p q r = rw (p, q, r, drop-drop 8 at b, drop-drop 16 at b, drop-drop 24 at b)
+held-read at count n ps b s p c k q =
+    rw (held-is 0 64 4 (field 4 0) n count (drop (at + 24) b) ps k q, p, c, drop-drop 8 at b, drop-drop 16 at b, drop-drop 24 at b)
+
+-- ---- what is read has its size
+
+pub length-read : {A : Type 0} (w : ℕ) (f : List ℕ → A) (n : ℕ) (b : List ℕ) → length (readAll w f n b) ≡ n
+unfolding readAll
+length-read w f zero b = refl
+length-read w f (suc n) b = ap suc (length-read w f n (drop w b))
+
+pub length-held-in : {A : Type 0} (d : A) (m w : ℕ) (f : List ℕ → A) (n : ℕ) (b : List ℕ) → length (readHeld d m w f n b) ≡ m
+unfolding readHeld
+length-held-in d m w f n b = rw (length-append, length-read, length-replicate) (omega arith)
+
+pub sized-in : (b : List ℕ) → Sized (storeIn b)
+unfolding storeIn tableIn framesIn heldIn
+sized-in b = record { entries = length-held-in _ _ _ _ _ _; pages = length-held-in _ _ _ _ _ _; touched = length-held-in _ _ _ _ _ _ }
+
+-- the i-th of what is read
+pub read-at : {A : Type 0} (w : ℕ) (f : List ℕ → A) (d : A) (n i : ℕ) (b : List ℕ) → i < n → getD (readAll w f n b) i d ≡ f (drop (w * i) b)
+unfolding readAll
+read-at w f d zero i b h = absurd (omega arith)
+read-at w f d (suc n) zero b h = let e : w * 0 ≡ 0 = omega arith in rw e
+read-at w f d (suc n) (suc i) b h =
+    let e : w + w * i ≡ w * suc i = omega arith in
+    read-at w f d n i (drop w b) (omega arith) ∙ ap f (drop-drop (w * i) w b ∙ ap (λ (k : ℕ). drop k b) e)
+
+-- the table of a store that is read has its size, whatever the bytes are
+pub entries-long : (b : List ℕ) → length (unpacked b .store .table .entries) ≡ 256
+unfolding unpacked storeIn tableIn blankStore emptyTable
+entries-long b = go (unreadable b)
+  where
+    go : (t : Bool) →
+        length (cond {A = Changed} t (record { number = 14; store = blankStore }) (record { number = 0; store = storeIn b }) .store .table .entries) ≡ 256
+    go true = length-replicate 256 blank
+    go false = length-held-in blank 256 24 entryIn _ _
+
+-- ---- what a call leaves
+
+pub kept-no : (n : ℕ) (s : Store) (b : List ℕ) → (n ≡ 0 → ⊥) → b ≡ keptIn n s b
+unfolding keptIn
+kept-no zero s b h = absurd (h refl)
+kept-no (suc n) s b h = refl
+
+pub kept-on : (n : ℕ) (s : Store) (b : List ℕ) → n ≡ 0 → packedInto s b .bytes ≡ keptIn n s b
+unfolding keptIn
+kept-on zero s b h = refl
+kept-on (suc n) s b h = absurd (omega (arith, h))

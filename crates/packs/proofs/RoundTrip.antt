@@ -1,30 +1,34 @@
--- What was packed is read back: the same store, for every store whose fields have the sizes of their types. Proved once over the width of a field.
--- Assumes nothing.
+-- What was packed is read back: the same lengths, counters, entries and pages, for every store whose fields have the sizes of their types. Past the counts a store
+-- that is read has blanks, and no call sees the difference: the two have the same world. Proved once over the width of a field. Assumes nothing.
 use mathlib.Core.Path.{_≡_, refl, sym, ap, _∙_}
 use mathlib.Core.List.{List, [], _∷_, _++_, append-nil, append-assoc}
 use mathlib.Core.Bool.{Bool, true, false, cond, _||_}
-use Prim.Native.Nat.{ℕ, zero, suc, _+_, _-_, _*_, _^_, _≤_, _<_}
+use Prim.Native.Nat.{ℕ, zero, suc, _+_, _-_, _*_, _^_, _≤_, _<_, min}
 use native.Mathlib.Omega.{arith}
 use borrow.Author.Tests.{le-ltb}
 use lib.Dec.{ltb}
-use lib.ListN.{length, take, drop, getD, length-append}
-use lib.Seq.{sets, sets-eq, drop-drop, take-at, drop-at}
+use lib.ListN.{length, take, drop, getD, set, replicate, length-append, length-take, length-replicate, take-append-drop}
+use lib.Seq.{sets, sets-eq, length-sets, drop-drop, take-at, drop-at, take-set-le, drop-set-add, getD-take, take-append-le, take-take}
 use Rattle.fields.specs.Bytes.{leOf, bytesOf}
 use Rattle.fields.proofs.ByteLaws.{length-bytesOf, leOf-bytesOf}
+use Rattle.fields.proofs.Tests.{Order, less, most, order}
 use Rattle.table.specs.declared.Status.{Status}
 use Rattle.table.specs.declared.Status.the-variants.{Active, Committed, Aborted}
 use Rattle.table.specs.declared.Entry.{Entry}
 use Rattle.table.specs.declared.Table.{Table}
 use Rattle.table.specs.Entries.{blank, timeOf}
 use Rattle.frames.specs.declared.Frames.{Frames}
+use Rattle.world.specs.World.{World}
 use Rattle.world.specs.declared.Slot.{Slot}
 use Rattle.world.specs.declared.Slot.the-variants.{Installed, Empty}
 use Rattle.form.specs.declared.Held.{Held}
 use Rattle.form.specs.declared.Store.{Store}
+use Rattle.form.specs.Store.{firstOf, memOf, worldOf}
 use Rattle.form.proofs.Arrays.{Sized}
 use Rattle.packs.specs.Packs.{
   laidAll,
   readAll,
+  readHeld,
   field,
   tagOf,
   statusIn,
@@ -33,9 +37,10 @@ use Rattle.packs.specs.Packs.{
   slotIn,
   three,
   entryBytes,
-  tableBytes,
-  pagesBytes,
+  heldBytes,
   slotBytes,
+  frontBytes,
+  transactionBytes,
   packed,
   packing,
   packedInto,
@@ -50,7 +55,7 @@ use Rattle.packs.specs.Packs.{
   blankStore,
   unpacked,
 }
-use Rattle.packs.proofs.Laws.{length-entry, length-three, length-table, length-pages, length-slot, length-packed, frames-read, held-read}
+use Rattle.packs.proofs.Laws.{first-min, length-all, length-entry, length-three, length-slot}
 
 -- ---- fields have the sizes of their types (past the end `getD` gives a blank)
 
@@ -76,6 +81,85 @@ pub record Fits (s : Store) : Type 0 where
   pub slot : slotId (s .held .slot) < 2 ^ 64
   pub touched : PagesFit (s .held .touched .pages)
   pub touched-count : s .held .touched .count < 2 ^ 64
+
+-- ---- a store with blanks past its counts
+
+-- the first n of m places, and blanks after them
+abbrev pub kept : {A : Type 0} → A → ℕ → ℕ → List A → List A
+kept d m n xs = take n xs ++ replicate (m - min n m) d
+
+unfoldable pub trimmed : Store → Store
+trimmed s =
+    record {
+      lens = s .lens;
+      pages = s .pages;
+      next = s .next;
+      time = s .time;
+      mark = s .mark;
+      table = record { entries = kept blank 256 (s .table .count) (s .table .entries); count = s .table .count };
+      frames = record { pages = kept 0 64 (s .frames .count) (s .frames .pages); count = s .frames .count };
+      held = record {
+        slot = s .held .slot;
+        touched = record { pages = kept 0 64 (s .held .touched .count) (s .held .touched .pages); count = s .held .touched .count };
+      };
+    }
+
+-- it is seen as the store was
+module _ {A : Type 0} (d : A) (m n : ℕ) (xs : List A) (z : length xs ≡ m) where
+  length-kept : length (kept d m n xs) ≡ m
+  length-kept = rw (length-append, length-take, length-replicate, z) (omega arith)
+
+  take-kept : take n (kept d m n xs) ≡ take n xs
+  take-kept = go (order n (length xs))
+    where
+      go : Order n (length xs) → take n (kept d m n xs) ≡ take n xs
+      go (less p) =
+          let e : length (take n xs) ≡ n = length-take n xs ∙ omega arith in
+          take-at (take n xs) _ n e
+      go (most p) =
+          let e : m - min n m ≡ 0 = omega (arith, z) in
+          rw (e, append-nil (take n xs)) (take-take n n xs (omega arith))
+
+  pub first-kept : firstOf d n (kept d m n xs) ≡ firstOf d n xs
+  unfolding firstOf
+  first-kept = rw (take-kept, length-kept, z)
+
+pub trimmed-seen : (s : Store) → Sized s → (log db clog frames : List ℕ) → worldOf (trimmed s) log db clog frames ≡ worldOf s log db clog frames
+unfolding worldOf memOf trimmed
+trimmed-seen s z log db clog frames =
+    rw (first-kept blank 256 (s .table .count) (s .table .entries) (z .entries), first-kept 0 64 (s .frames .count) (s .frames .pages) (z .pages), first-kept 0 64 (s .held .touched .count) (s .held .touched .pages) (z .touched))
+
+-- ---- what stands in bytes, and what is stored elsewhere
+
+abbrev pub Stands : List ℕ → ℕ → List ℕ → Type 0
+Stands l at xs = take (length xs) (drop at l) ≡ xs
+
+pub take-sets : (zs l : List ℕ) (n j : ℕ) → n ≤ j → take n (sets l j zs) ≡ take n l
+take-sets [] l n j h = refl
+take-sets (z ∷ zs) l n j h = take-sets zs (set l j z) n (suc j) (omega arith) ∙ take-set-le n l j z h
+
+pub drop-sets : (zs l : List ℕ) (at j : ℕ) → drop at (sets l (at + j) zs) ≡ sets (drop at l) j zs
+drop-sets [] l at j = refl
+drop-sets (z ∷ zs) l at j =
+    let e : suc (at + j) ≡ at + suc j = omega arith in
+    ap (λ (k : ℕ). drop at (sets (set l (at + j) z) k zs)) e ∙ drop-sets zs (set l (at + j) z) at (suc j)
+    ∙ ap (λ (t : List ℕ). sets t (suc j) zs) (drop-set-add at l j z)
+
+pub stands-set : (at : ℕ) (xs l : List ℕ) → at + length xs ≤ length l → Stands (sets l at xs) at xs
+stands-set at xs l h =
+    let z : length (take at l) ≡ at = length-take at l ∙ omega arith in
+    ap (λ (t : List ℕ). take (length xs) (drop at t)) (sets-eq xs l at h ∙ append-assoc (take at l) xs (drop (at + length xs) l))
+    ∙ ap (λ (t : List ℕ). take (length xs) t) (drop-at (take at l) (xs ++ drop (at + length xs) l) at z)
+    ∙ take-at xs (drop (at + length xs) l) (length xs) refl
+
+pub stands-on : (at k : ℕ) (xs zs l : List ℕ) → at + length xs ≤ k → Stands l at xs → Stands (sets l k zs) at xs
+stands-on at k xs zs l h e =
+    let p : k ≡ at + (k - at) = omega arith in
+    ap (λ (j : ℕ). take (length xs) (drop at (sets l j zs))) p ∙ ap (take (length xs)) (drop-sets zs l at (k - at))
+    ∙ take-sets zs (drop at l) (length xs) (k - at) (omega arith) ∙ e
+
+pub stands-then : (at : ℕ) (xs l : List ℕ) → Stands l at xs → drop at l ≡ xs ++ drop (length xs) (drop at l)
+stands-then at xs l e = sym (take-append-drop (length xs) (drop at l)) ∙ ap (λ (t : List ℕ). t ++ drop (length xs) (drop at l)) e
 
 -- ---- a field, and the place after a part
 
@@ -156,39 +240,39 @@ tags-known (suc n) (x ∷ es) ys e h =
     rw (append-assoc (entryBytes x) (laidAll entryBytes es) ys, tag-back x zs (h 0), le-ltb 2 (tagOf (x .status)) (tag-most (x .status)), drop-at (entryBytes x) zs 24 (length-entry x))
     (tags-known n es ys (omega (arith, e)) (λ i. h (suc i)))
 
--- ---- the parts of a store, from the place where each stands
+-- ---- a count and the first of an array, from the place where they stand
 
-module _ (at : ℕ) (l ys : List ℕ) where
-  pub table-back : (t : Table) → drop at l ≡ tableBytes t ++ ys → length (t .entries) ≡ 256 → t .count < 2 ^ 64
-      → ((i : ℕ) → EntryFits (getD (t .entries) i blank)) → tableIn (drop at l) ≡ t
-  unfolding tableBytes tableIn
-  table-back t e z c h =
-      let f : drop at l ≡ bytesOf 8 (t .count) ++ (laidAll entryBytes (t .entries) ++ ys) =
-      e ∙ append-assoc (bytesOf 8 (t .count)) (laidAll entryBytes (t .entries)) ys in
-      same (field 8 at l) (drop 8 (drop at l)) (field-back 8 at (t .count) l (laidAll entryBytes (t .entries) ++ ys) f c)
-      (ap (λ (k : List ℕ). drop 8 k) f ∙ drop-at (bytesOf 8 (t .count)) (laidAll entryBytes (t .entries) ++ ys) 8 (length-bytesOf 8 (t .count)))
-    where
-      same : (n : ℕ) (b : List ℕ) → n ≡ t .count → b ≡ laidAll entryBytes (t .entries) ++ ys → record { entries = readAll 24 entryIn 256 b; count = n } ≡ t
-      same n b p q = rw (p, q, all-back 24 entryIn entryBytes EntryFits blank length-entry entry-back 256 (t .entries) ys z h)
+module _ {A : Type 0} (w : ℕ) (f : List ℕ → A) (g : A → List ℕ) (P : A → Type 0) (d : A) (size : (x : A) → length (g x) ≡ w) (back : (x : A) (ys : List ℕ) → P x → f (g x ++ ys) ≡ x) (blank-fits : P d) where
+  first-fits : (n : ℕ) (xs : List A) → ((i : ℕ) → P (getD xs i d)) → (i : ℕ) → P (getD (take n xs) i d)
+  first-fits zero xs h i = blank-fits
+  first-fits (suc n) [] h i = blank-fits
+  first-fits (suc n) (x ∷ xs) h zero = h 0
+  first-fits (suc n) (x ∷ xs) h (suc i) = first-fits n xs (λ j. h (suc j)) i
 
-  -- a count and pages: the count, the pages, and what stands after them
-  pub pages-back : (n : ℕ) (ps : List ℕ) → drop at l ≡ pagesBytes n ps ++ ys → length ps ≡ 64 → n < 2 ^ 64 → PagesFit ps
-      → (field 8 at l ≡ n) × (pagesIn (drop (at + 8) l) ≡ ps)
-  unfolding pagesBytes pagesIn
-  pages-back n ps e z c h =
-      let f : drop at l ≡ bytesOf 8 n ++ (laidAll (bytesOf 4) ps ++ ys) = e ∙ append-assoc (bytesOf 8 n) (laidAll (bytesOf 4) ps) ys in
-      let g : drop (at + 8) l ≡ laidAll (bytesOf 4) ps ++ ys =
-      past at 8 (at + 8) l (bytesOf 8 n) (laidAll (bytesOf 4) ps ++ ys) f (length-bytesOf 8 n) refl in (
-        field-back 8 at n l (laidAll (bytesOf 4) ps ++ ys) f c,
-        ap (readAll 4 (field 4 0) 64) g
-            ∙ all-back 4 (field 4 0) (bytesOf 4) (λ p. p < 2 ^ 32) 0 (length-bytesOf 4) (λ p zs b. field-back 4 0 p (bytesOf 4 p ++ zs) zs refl b) 64 ps ys z h,
+  pub held-back : (at m n : ℕ) (xs l ys : List _) → drop at l ≡ heldBytes g n xs ++ ys → length xs ≡ m → n < 2 ^ 64 → ((i : ℕ) → P (getD xs i d))
+      → (field 8 at l ≡ n) × (readHeld d m w f n (drop (at + 8) l) ≡ kept d m n xs)
+  unfolding heldBytes readHeld
+  held-back at m n xs l ys e z c h =
+      let zs : List ℕ = laidAll g (take n xs) ++ ys in
+      let p : drop at l ≡ bytesOf 8 n ++ zs = e ∙ append-assoc (bytesOf 8 n) (laidAll g (take n xs)) ys in
+      let q : drop (at + 8) l ≡ zs = past at 8 (at + 8) l (bytesOf 8 n) zs p (length-bytesOf 8 n) refl in
+      let k : length (take n xs) ≡ min n m = length-take n xs ∙ ap (min n) z in (
+        field-back 8 at n l zs p c,
+        ap (λ (t : List A). t ++ replicate (m - min n m) d)
+            (ap (readAll w f (min n m)) q ∙ all-back w f g P d size back (min n m) (take n xs) ys k (first-fits n xs h)),
       )
 
-  pub frames-back : (f : Frames) → drop at l ≡ pagesBytes (f .count) (f .pages) ++ ys → length (f .pages) ≡ 64 → f .count < 2 ^ 64
-      → PagesFit (f .pages) → framesIn (drop at l) ≡ f
-  frames-back f e z c h =
-      let k = pages-back (f .count) (f .pages) e z c h in
-      sym (frames-read at (f .count) (f .pages) l (sym (k .0)) (sym (k .1)))
+page-back : (p : ℕ) (ys : List ℕ) → p < 2 ^ 32 → field 4 0 (bytesOf 4 p ++ ys) ≡ p
+page-back p ys b = field-back 4 0 p (bytesOf 4 p ++ ys) ys refl b
+
+entries-back : (at n : ℕ) (es : List Entry) (l ys : List ℕ) → drop at l ≡ heldBytes entryBytes n es ++ ys → length es ≡ 256 → n < 2 ^ 64
+    → ((i : ℕ) → EntryFits (getD es i blank))
+    → (field 8 at l ≡ n) × (readHeld blank 256 24 entryIn n (drop (at + 8) l) ≡ kept blank 256 n es)
+entries-back at n es l ys e z c h = held-back 24 entryIn entryBytes EntryFits blank length-entry entry-back (omega arith, omega arith) at 256 n es l ys e z c h
+
+pub pages-back : (at n : ℕ) (ps l ys : List ℕ) → drop at l ≡ heldBytes (bytesOf 4) n ps ++ ys → length ps ≡ 64 → n < 2 ^ 64 → PagesFit ps
+    → (field 8 at l ≡ n) × (pagesIn n (drop (at + 8) l) ≡ kept 0 64 n ps)
+pages-back at n ps l ys e z c h = held-back 4 (field 4 0) (bytesOf 4) (λ p. p < 2 ^ 32) 0 (length-bytesOf 4) page-back (omega arith) at 64 n ps l ys e z c h
 
 slot-back : (s : Slot) → slotIn (slotTag s) (slotId s) ≡ s
 unfolding slotIn
@@ -199,40 +283,33 @@ slot-most : (s : Slot) → slotTag s ≤ 1
 slot-most (Installed id) = omega arith
 slot-most Empty = omega arith
 
-module _ (at : ℕ) (l ys : List ℕ) (h : Held) (e : drop at l ≡ slotBytes (h .slot) ++ (pagesBytes (h .touched .count) (h .touched .pages) ++ ys)) (id : slotId (h .slot) < 2 ^ 64) where
+module _ (at : ℕ) (l ys : List ℕ) (h : Held) (e : drop at l ≡ transactionBytes h ++ ys) (id : slotId (h .slot) < 2 ^ 64) where
   slot-read : (field 8 at l ≡ slotTag (h .slot)) × (field 8 (at + 8) l ≡ slotId (h .slot)) ×
-      (drop (at + 16) l ≡ pagesBytes (h .touched .count) (h .touched .pages) ++ ys)
-  unfolding slotBytes
+      (drop (at + 16) l ≡ heldBytes (bytesOf 4) (h .touched .count) (h .touched .pages) ++ ys)
+  unfolding transactionBytes slotBytes
   slot-read =
-      let zs : List ℕ = pagesBytes (h .touched .count) (h .touched .pages) ++ ys in
-      pair-back l zs at (slotTag (h .slot)) (slotId (h .slot)) (e ∙ append-assoc (bytesOf 8 (slotTag (h .slot))) (bytesOf 8 (slotId (h .slot))) zs)
+      let pages : List ℕ = heldBytes (bytesOf 4) (h .touched .count) (h .touched .pages) in
+      let tag : List ℕ = bytesOf 8 (slotTag (h .slot)) in
+      let own : List ℕ = bytesOf 8 (slotId (h .slot)) in
+      pair-back l (pages ++ ys) at (slotTag (h .slot)) (slotId (h .slot)) (e ∙ append-assoc (tag ++ own) pages ys ∙ append-assoc tag own (pages ++ ys))
       (omega (arith, slot-most (h .slot))) id
 
   slot-known : ltb 1 (field 8 at l) ≡ false
   slot-known = ap (λ (t : ℕ). ltb 1 t) (slot-read .0) ∙ le-ltb 1 (slotTag (h .slot)) (slot-most (h .slot))
 
-  held-back : length (h .touched .pages) ≡ 64 → h .touched .count < 2 ^ 64 → PagesFit (h .touched .pages) → heldIn (drop at l) ≡ h
-  held-back z c g =
-      let k = pages-back (at + 16) l ys (h .touched .count) (h .touched .pages) (slot-read .2) z c g in
-      let q : at + 24 ≡ at + 16 + 8 = omega arith in
-      sym (held-read at (h .touched .count) (h .touched .pages) l (h .slot) (sym (slot-same (field 8 at l) (field 8 (at + 8) l) (slot-read .0) (slot-read .1))) (sym (k .0))
-      (sym (ap (λ (j : ℕ). pagesIn (drop j l)) q ∙ k .1)))
-    where
-      slot-same : (t i : ℕ) → t ≡ slotTag (h .slot) → i ≡ slotId (h .slot) → slotIn t i ≡ h .slot
-      slot-same t i p q = rw (p, q, slot-back (h .slot))
+-- what is read of a transaction, by the fields at its place
+held-same : (h : Held) (at n : ℕ) (l zs : List ℕ) → field 8 at l ≡ slotTag (h .slot) → field 8 (at + 8) l ≡ slotId (h .slot) → field 8 (at + 16) l ≡ n
+    → pagesIn n (drop (at + 24) l) ≡ zs
+    → heldIn (drop at l) ≡ record { slot = h .slot; touched = record { pages = zs; count = n } }
+unfolding heldIn
+held-same h at n l zs p q c r = rw (drop-drop 8 at l, drop-drop 16 at l, drop-drop 24 at l, p, q, c, r, slot-back (h .slot))
 
 -- ---- the store
 
-seven : (a b c d e f g ys : List ℕ) → (a ++ (b ++ (c ++ (d ++ (e ++ (f ++ g)))))) ++ ys ≡ a ++ (b ++ (c ++ (d ++ (e ++ (f ++ (g ++ ys))))))
-seven a b c d e f g ys =
-    rw (
-      append-assoc a (b ++ (c ++ (d ++ (e ++ (f ++ g))))) ys,
-      append-assoc b (c ++ (d ++ (e ++ (f ++ g)))) ys,
-      append-assoc c (d ++ (e ++ (f ++ g))) ys,
-      append-assoc d (e ++ (f ++ g)) ys,
-      append-assoc e (f ++ g) ys,
-      append-assoc f g ys,
-    )
+pub length-held : {A : Type 0} (g : A → List ℕ) (w : ℕ) (size : (x : A) → length (g x) ≡ w) (n m : ℕ) (xs : List A) → length xs ≡ m
+    → length (heldBytes g n xs) ≡ 8 + w * min n m
+unfolding heldBytes
+length-held g w size n m xs z = rw (length-append, length-bytesOf, length-all g w size (take n xs), length-take, z)
 
 store-same : (s : Store) (log db clog pages next time mark : ℕ) (t : Table) (f : Frames) (h : Held) → log ≡ s .lens .log → db ≡ s .lens .db
     → clog ≡ s .lens .clog
@@ -249,86 +326,161 @@ store-same : (s : Store) (log db clog pages next time mark : ℕ) (t : Table) (f
     } ≡ s
 store-same s log db clog pages next time mark t f h p₁ p₂ p₃ p₄ p₅ p₆ p₇ p₈ p₉ p₀ = rw (p₁, p₂, p₃, p₄, p₅, p₆, p₇, p₈, p₉, p₀)
 
-none : (a b c : Bool) → a ≡ false → b ≡ false → c ≡ false → (a || (b || c)) ≡ false
+pub none : (a b c : Bool) → a ≡ false → b ≡ false → c ≡ false → (a || (b || c)) ≡ false
 none a b c p q r = rw (p, q, r)
 
-module _ (s : Store) (fits : Fits s) (l ys : List ℕ) (whole : l ≡ packed s ++ ys) where
+module _ (s : Store) (fits : Fits s) (b : List ℕ) (long : 6748 ≤ length b) where
+  abbrev resident : List ℕ
+  resident = heldBytes (bytesOf 4) (s .frames .count) (s .frames .pages)
+
+  abbrev entries : List ℕ
+  entries = heldBytes entryBytes (s .table .count) (s .table .entries)
+
+  front-most : length (frontBytes s) ≤ 6200
+  unfolding frontBytes
+  front-most =
+      rw (length-append, length-append, length-three (s .lens .log) (s .lens .db) (s .lens .clog), length-three (s .next .0) (s .time .0) (s .mark .0), length-held entryBytes 24 length-entry (s .table .count) 256 (s .table .entries) (fits .sized .entries))
+      (omega arith)
+
+  resident-most : length resident ≤ 264
+  resident-most = rw (length-held (bytesOf 4) 4 (length-bytesOf 4) (s .frames .count) 64 (s .frames .pages) (fits .sized .pages)) (omega arith)
+
+  held-most : length (transactionBytes (s .held)) ≤ 280
+  unfolding transactionBytes
+  held-most =
+      rw (length-append, length-slot, length-held (bytesOf 4) 4 (length-bytesOf 4) (s .held .touched .count) 64 (s .held .touched .pages) (fits .sized .touched))
+      (omega arith)
+
+  -- the bytes after each part was stored
+  abbrev l₁ : List ℕ
+  l₁ = sets b 0 (frontBytes s)
+
+  abbrev l₂ : List ℕ
+  l₂ = sets l₁ 6200 resident
+
+  abbrev l₃ : List ℕ
+  l₃ = sets l₂ 6464 (transactionBytes (s .held))
+
+  abbrev l₄ : List ℕ
+  l₄ = sets l₃ 6744 (bytesOf 4 (s .pages))
+
+  length₁ : length l₁ ≡ length b
+  length₁ = length-sets b 0 (frontBytes s)
+
+  length₂ : length l₂ ≡ length b
+  length₂ = length-sets l₁ 6200 resident ∙ length₁
+
+  length₃ : length l₃ ≡ length b
+  length₃ = length-sets l₂ 6464 (transactionBytes (s .held)) ∙ length₂
+
+  length₄ : length l₄ ≡ length b
+  length₄ = length-sets l₃ 6744 (bytesOf 4 (s .pages)) ∙ length₃
+
+  front-stands : Stands l₄ 0 (frontBytes s)
+  front-stands =
+      stands-on 0 6744 (frontBytes s) (bytesOf 4 (s .pages)) l₃ (omega (arith, front-most))
+      (stands-on 0 6464 (frontBytes s) (transactionBytes (s .held)) l₂ (omega (arith, front-most))
+      (stands-on 0 6200 (frontBytes s) resident l₁ (omega (arith, front-most)) (stands-set 0 (frontBytes s) b (omega (arith, front-most, long)))))
+
+  resident-stands : Stands l₄ 6200 resident
+  resident-stands =
+      stands-on 6200 6744 resident (bytesOf 4 (s .pages)) l₃ (omega (arith, resident-most))
+      (stands-on 6200 6464 resident (transactionBytes (s .held)) l₂ (omega (arith, resident-most))
+      (stands-set 6200 resident l₁ (omega (arith, resident-most, long, length₁))))
+
+  held-stands : Stands l₄ 6464 (transactionBytes (s .held))
+  held-stands =
+      stands-on 6464 6744 (transactionBytes (s .held)) (bytesOf 4 (s .pages)) l₃ (omega (arith, held-most))
+      (stands-set 6464 (transactionBytes (s .held)) l₂ (omega (arith, held-most, long, length₂)))
+
+  pages-stands : Stands l₄ 6744 (bytesOf 4 (s .pages))
+  pages-stands = stands-set 6744 (bytesOf 4 (s .pages)) l₃ (omega (arith, length-bytesOf 4 (s .pages), long, length₃))
+
   -- what stands from each part's place on
-  abbrev from-held : List ℕ
-  from-held = slotBytes (s .held .slot) ++ (pagesBytes (s .held .touched .count) (s .held .touched .pages) ++ (bytesOf 4 (s .pages) ++ ys))
+  abbrev after-front : List ℕ
+  after-front = drop (length (frontBytes s)) (drop 0 l₄)
 
-  abbrev from-frames : List ℕ
-  from-frames = pagesBytes (s .frames .count) (s .frames .pages) ++ from-held
+  abbrev counters : List ℕ
+  counters = three (s .next .0) (s .time .0) (s .mark .0)
 
-  abbrev from-table : List ℕ
-  from-table = tableBytes (s .table) ++ from-frames
-
-  abbrev from-counters : List ℕ
-  from-counters = three (s .next .0) (s .time .0) (s .mark .0) ++ from-table
-
-  at-start : drop 0 l ≡ three (s .lens .log) (s .lens .db) (s .lens .clog) ++ from-counters
-  unfolding packed
+  at-start : drop 0 l₄ ≡ three (s .lens .log) (s .lens .db) (s .lens .clog) ++ (counters ++ (entries ++ after-front))
+  unfolding frontBytes
   at-start =
-      whole
-      ∙ seven (three (s .lens .log) (s .lens .db) (s .lens .clog)) (three (s .next .0) (s .time .0) (s .mark .0)) (tableBytes (s .table))
-      (pagesBytes (s .frames .count) (s .frames .pages)) (slotBytes (s .held .slot)) (pagesBytes (s .held .touched .count) (s .held .touched .pages))
-      (bytesOf 4 (s .pages)) ys
+      let lens : List ℕ = three (s .lens .log) (s .lens .db) (s .lens .clog) in
+      stands-then 0 (frontBytes s) l₄ front-stands ∙ append-assoc lens (counters ++ entries) after-front
+      ∙ ap (λ (t : List ℕ). lens ++ t) (append-assoc counters entries after-front)
 
-  at-counters : drop 24 l ≡ from-counters
-  at-counters =
-      past 0 24 24 l (three (s .lens .log) (s .lens .db) (s .lens .clog)) from-counters at-start (length-three (s .lens .log) (s .lens .db) (s .lens .clog)) refl
+  at-counters : drop 24 l₄ ≡ counters ++ (entries ++ after-front)
+  at-counters = past 0 24 24 l₄ (three (s .lens .log) (s .lens .db) (s .lens .clog)) _ at-start (length-three (s .lens .log) (s .lens .db) (s .lens .clog)) refl
 
-  at-table : drop 48 l ≡ from-table
-  at-table = past 24 24 48 l (three (s .next .0) (s .time .0) (s .mark .0)) from-table at-counters (length-three _ _ _) refl
+  at-table : drop 48 l₄ ≡ entries ++ after-front
+  at-table = past 24 24 48 l₄ counters _ at-counters (length-three (s .next .0) (s .time .0) (s .mark .0)) refl
 
-  at-frames : drop 6200 l ≡ from-frames
-  at-frames = past 48 6152 6200 l (tableBytes (s .table)) from-frames at-table (length-table (s .table) (fits .sized .entries)) refl
+  abbrev after-held : List ℕ
+  after-held = drop (length (transactionBytes (s .held))) (drop 6464 l₄)
 
-  at-held : drop 6464 l ≡ from-held
-  at-held = past 6200 264 6464 l (pagesBytes (s .frames .count) (s .frames .pages)) from-held at-frames (length-pages _ _ (fits .sized .pages)) refl
+  at-held : drop 6464 l₄ ≡ transactionBytes (s .held) ++ after-held
+  at-held = stands-then 6464 (transactionBytes (s .held)) l₄ held-stands
 
-  at-pages : drop 6744 l ≡ bytesOf 4 (s .pages) ++ ys
-  at-pages =
-      past 6480 264 6744 l (pagesBytes (s .held .touched .count) (s .held .touched .pages)) (bytesOf 4 (s .pages) ++ ys)
-      (past 6464 16 6480 l (slotBytes (s .held .slot)) _ at-held (length-slot (s .held .slot)) refl) (length-pages _ _ (fits .sized .touched)) refl
+  table-back : tableIn (drop 48 l₄) ≡ trimmed s .table
+  unfolding tableIn trimmed
+  table-back =
+      let k = entries-back 48 (s .table .count) (s .table .entries) l₄ after-front at-table (fits .sized .entries) (fits .entry-count) (fits .entries) in
+      rw (drop-drop 8 48 l₄, k .0, k .1)
 
-  store-back : storeIn l ≡ s
-  unfolding storeIn
+  frames-back : framesIn (drop 6200 l₄) ≡ trimmed s .frames
+  unfolding framesIn trimmed
+  frames-back =
+      let k = pages-back 6200 (s .frames .count) (s .frames .pages) l₄ _ (stands-then 6200 resident l₄ resident-stands) (fits .sized .pages) (fits .resident-count) (fits .resident) in
+      rw (drop-drop 8 6200 l₄, k .0, k .1)
+
+  transaction-back : heldIn (drop 6464 l₄) ≡ trimmed s .held
+  unfolding trimmed
+  transaction-back =
+      let k = slot-read 6464 l₄ after-held (s .held) at-held (fits .slot) in
+      let p = pages-back 6480 (s .held .touched .count) (s .held .touched .pages) l₄ after-held (k .2) (fits .sized .touched) (fits .touched-count) (fits .touched) in
+      held-same (s .held) 6464 (s .held .touched .count) l₄ _ (k .0) (k .1) (p .0) (p .1)
+
+  store-back : storeIn l₄ ≡ trimmed s
+  unfolding storeIn trimmed
   store-back =
-      let lens = three-back l from-counters 0 (s .lens .log) (s .lens .db) (s .lens .clog) at-start (fits .log) (fits .db) (fits .clog) in
-      let counters = three-back l from-table 24 (s .next .0) (s .time .0) (s .mark .0) at-counters (fits .next) (fits .time) (fits .mark) in
-      store-same s (field 8 0 l) (field 8 8 l) (field 8 16 l) (field 4 6744 l) (field 8 24 l) (field 8 32 l) (field 8 40 l) (tableIn (drop 48 l))
-      (framesIn (drop 6200 l)) (heldIn (drop 6464 l))
-      (lens .0) (lens .1) (lens .2) (field-back 4 6744 (s .pages) l ys at-pages (fits .pages)) (counters .0) (counters .1) (counters .2)
-      (table-back 48 l from-frames (s .table) at-table (fits .sized .entries) (fits .entry-count) (fits .entries))
-      (frames-back 6200 l from-held (s .frames) at-frames (fits .sized .pages) (fits .resident-count) (fits .resident))
-      (held-back 6464 l (bytesOf 4 (s .pages) ++ ys) (s .held) at-held (fits .slot) (fits .sized .touched) (fits .touched-count) (fits .touched))
+      let lens = three-back l₄ _ 0 (s .lens .log) (s .lens .db) (s .lens .clog) at-start (fits .log) (fits .db) (fits .clog) in
+      let own = three-back l₄ _ 24 (s .next .0) (s .time .0) (s .mark .0) at-counters (fits .next) (fits .time) (fits .mark) in
+      fields-back (lens .0) (lens .1) (lens .2) (field-back 4 6744 (s .pages) l₄ _ (stands-then 6744 (bytesOf 4 (s .pages)) l₄ pages-stands) (fits .pages)) (own .0)
+      (own .1) (own .2)
+    where
+      fields-back : field 8 0 l₄ ≡ s .lens .log → field 8 8 l₄ ≡ s .lens .db → field 8 16 l₄ ≡ s .lens .clog → field 4 6744 l₄ ≡ s .pages → field 8 24 l₄ ≡ s .next .0
+          → field 8 32 l₄ ≡ s .time .0 → field 8 40 l₄ ≡ s .mark .0 → storeIn l₄ ≡ trimmed s
+      fields-back p₁ p₂ p₃ p₄ p₅ p₆ p₇ =
+          store-same (trimmed s) (field 8 0 l₄) (field 8 8 l₄) (field 8 16 l₄) (field 4 6744 l₄) (field 8 24 l₄) (field 8 32 l₄) (field 8 40 l₄) (tableIn (drop 48 l₄))
+          (framesIn (drop 6200 l₄)) (heldIn (drop 6464 l₄)) p₁ p₂ p₃ p₄ p₅ p₆ p₇ table-back frames-back transaction-back
 
-  is-readable : unreadable l ≡ false
-  unfolding unreadable tableBytes
+  is-readable : unreadable l₄ ≡ false
+  unfolding unreadable heldBytes
   is-readable =
-      let zs : List ℕ = laidAll entryBytes (s .table .entries) ++ from-frames in
-      let e : drop 48 l ≡ bytesOf 8 (s .table .count) ++ zs =
-      at-table ∙ append-assoc (bytesOf 8 (s .table .count)) (laidAll entryBytes (s .table .entries)) from-frames in
-      let d : drop 56 l ≡ zs = past 48 8 56 l (bytesOf 8 (s .table .count)) zs e (length-bytesOf 8 (s .table .count)) refl in
-      let n : length l ≡ 6748 + length ys = ap length whole ∙ length-append (packed s) ys ∙ ap (λ (k : ℕ). k + length ys) (length-packed s (fits .sized)) in
-      none (ltb (length l) 6748) (ltb 1 (field 8 6464 l)) (unknownTag 256 (drop 56 l)) (le-ltb (length l) 6748 (omega (arith, n)))
-      (slot-known 6464 l (bytesOf 4 (s .pages) ++ ys) (s .held) at-held (fits .slot))
-      (ap (unknownTag 256) d ∙ tags-known 256 (s .table .entries) from-frames (fits .sized .entries) (fits .entries))
+      let es : List Entry = take (s .table .count) (s .table .entries) in
+      let zs : List ℕ = laidAll entryBytes es ++ after-front in
+      let e : drop 48 l₄ ≡ bytesOf 8 (s .table .count) ++ zs = at-table ∙ append-assoc (bytesOf 8 (s .table .count)) (laidAll entryBytes es) after-front in
+      let d : drop 56 l₄ ≡ zs = past 48 8 56 l₄ (bytesOf 8 (s .table .count)) zs e (length-bytesOf 8 (s .table .count)) refl in
+      let n : field 8 48 l₄ ≡ s .table .count = field-back 8 48 (s .table .count) l₄ zs e (fits .entry-count) in
+      let k : length es ≡ min (s .table .count) 256 = length-take (s .table .count) (s .table .entries) ∙ ap (min (s .table .count)) (fits .sized .entries) in
+      none (ltb (length l₄) 6748) (ltb 1 (field 8 6464 l₄)) (unknownTag (min (field 8 48 l₄) 256) (drop 56 l₄)) (le-ltb (length l₄) 6748 (omega (arith, length₄, long)))
+      (slot-known 6464 l₄ after-held (s .held) at-held (fits .slot))
+      (ap (λ (j : ℕ). unknownTag (min j 256) (drop 56 l₄)) n ∙ ap (unknownTag (min (s .table .count) 256)) d
+      ∙ tags-known (min (s .table .count) 256) es after-front k
+      (first-fits 24 entryIn entryBytes EntryFits blank length-entry entry-back (omega arith, omega arith) (s .table .count) (s .table .entries) (fits .entries)))
 
-  pub unpacked-back : unpacked l ≡ record { number = 0; store = s }
+  pub unpacked-back : unpacked l₄ ≡ record { number = 0; store = trimmed s }
   unfolding unpacked
   unpacked-back =
-      ap (λ (t : Bool). cond t (record { number = 14; store = blankStore }) (record { number = 0; store = storeIn l })) is-readable
+      ap (λ (t : Bool). cond t (record { number = 14; store = blankStore }) (record { number = 0; store = storeIn l₄ })) is-readable
       ∙ ap (λ (t : Store). record { number = 0; store = t }) store-back
 
 -- a buffer that is long enough takes every store, and gives it back
 pub round-trip : (s : Store) (b : List ℕ) → Fits s → 6748 ≤ length b
-    → (packedInto s b .number ≡ 0) × (unpacked (packedInto s b .bytes) ≡ record { number = 0; store = s })
-unfolding packedInto
+    → (packedInto s b .number ≡ 0) × (unpacked (packedInto s b .bytes) ≡ record { number = 0; store = trimmed s })
+unfolding packedInto packed
 round-trip s b fits h =
-    let z : length (packed s) ≡ 6748 = length-packed s (fits .sized) in
-    let e : packedInto s b ≡ packing 0 (sets b 0 (packed s)) =
-    ap (λ (t : Bool). cond t (packing 14 b) (packing 0 (sets b 0 (packed s)))) (le-ltb (length b) 6748 h) in
-    let w : sets b 0 (packed s) ≡ packed s ++ drop (0 + length (packed s)) b = sets-eq (packed s) b 0 (omega (arith, z)) in
-    (ap (λ p. p .number) e, ap (λ p. unpacked (p .bytes)) e ∙ unpacked-back s fits (sets b 0 (packed s)) (drop (0 + length (packed s)) b) w)
+    let e : packedInto s b ≡ packing 0 (packed s b) =
+    ap (λ (t : Bool). cond t (packing 14 b) (packing 0 (packed s b))) (le-ltb (length b) 6748 h) in
+    (ap (λ p. p .number) e, ap (λ p. unpacked (p .bytes)) e ∙ unpacked-back s fits b h)

@@ -1,1 +1,3 @@
 pub mod Packs
+pub mod Hosted
+pub mod Values

@@ -219,11 +219,11 @@ pub fn entry_at(s: Store, i: usize, log: &[u8], db: &[u8], clog: &[u8], frames: 
 // ---- pages
 
 // A page that is to be read or written: whether it was resident, its slot, and the store with it resident.
-struct Seat {
-    number: u8,
-    there: bool,
-    slot: usize,
-    store: Store,
+pub struct Seat {
+    pub number: u8,
+    pub there: bool,
+    pub slot: usize,
+    pub store: Store,
 }
 
 fn refused_seat(number: u8, s: Store) -> Seat
@@ -287,7 +287,7 @@ fn seat_page(s: Store, page: u32, log: &[u8], db: &[u8], clog: &[u8], frames: &[
 }
 
 // The file's page into a frame, unless the page was there.
-fn fill(frames: &mut [u8], there: bool, slot: usize, db: &[u8], len: usize, page: u32)
+pub fn fill(frames: &mut [u8], there: bool, slot: usize, db: &[u8], len: usize, page: u32)
     ensures { λ _. ⌜ now (frames .exit) ≡ cond there (now (frames .entry)) (sets (now (frames .entry)) (slot * 4096) (pageOf 4096 (fileOf (now (db .entry)) len) page)) ⌝ }
 {
     if there {

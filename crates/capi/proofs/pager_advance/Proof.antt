@@ -1,7 +1,7 @@
 -- `capi::pager_advance` meets its contract: no store stands there, or the call is made. Assumes nothing.
 use Rattle.world.specs.Calls.{Advance}
 use Rattle.form.specs.Store.{called}
-use Rattle.capi.proofs.Laws.{hosted-no, hosted-on}
+use Rattle.packs.proofs.Hosting.{hosted-no, hosted-on}
 use borrow.Author.Needs.{needs}
 use Rattle.capi.proofs.pager_advance.Statement.{statement}
 use Rattle.capi.proofs.pager_advance.Tie as tie

@@ -19,8 +19,8 @@ number-of-requires c κs = search needs
 length-of-requires : tie.Need-length-of-requires
 length-of-requires c κs = search needs
 
-keep-requires : tie.Need-keep-requires
-keep-requires c κs = search needs
+pack-requires : tie.Need-pack-requires
+pack-requires c κs = search needs
 
 same-length : tie.Need-same-length
 same-length c = search needs
@@ -43,7 +43,7 @@ returns-2 c =
     let i = o .before .before .before .before in
     let a = i .before .before .before .before .before .before .args in
     open-on 4096 (record { log = a .log-len; db = a .db-len; clog = a .clog-len }) (a .told .now) (a .store .now) (a .log .now) (a .db .now) (a .clog .now)
-    (a .frames .now) (i .if1 .left) (o .open .result) _ _ _ _ _ _ _ _ (o .open .ensures) (v .number-of .ensures) (l .length-of .ensures) (k .keep .ensures)
+    (a .frames .now) (i .if1 .left) (o .open .result) _ _ _ _ _ _ _ _ (o .open .ensures) (v .number-of .ensures) (l .length-of .ensures) (k .pack .ensures)
 
 pub pager-open-spec : {M : Type 1} → statement M
 pager-open-spec =
@@ -53,7 +53,7 @@ pager-open-spec =
     open-requires
     number-of-requires
     length-of-requires
-    keep-requires
+    pack-requires
     same-length
     same-length-2
     same-length-3

@@ -15,6 +15,9 @@ Inv-loop n pages i₀ i = distinct (drop i (take n pages)) ≡ distinct (take n 
 abbrev μ-loop : tie.MeasureT-loop
 μ-loop n pages i₀ i = n - i
 
+slice-aggregate-all : tie.Need-slice-aggregate-all Inv-loop μ-loop
+slice-aggregate-all c = search needs
+
 loop-holds : tie.Need-loop-holds Inv-loop μ-loop
 loop-holds c = refl
 
@@ -24,16 +27,19 @@ add-is-in c = search needs
 mul-is-in : tie.Need-mul-is-in Inv-loop μ-loop
 mul-is-in c = search needs
 
-array-read-is-in : tie.Need-array-read-is-in Inv-loop μ-loop
-array-read-is-in c = search needs
+shared-slice-read-is-in : tie.Need-shared-slice-read-is-in Inv-loop μ-loop
+shared-slice-read-is-in c = omega arith
 
 is-in-requires : tie.Need-is-in-requires Inv-loop μ-loop
-is-in-requires c κs = search needs
+is-in-requires c κs =
+    let s = c .before .before .before .before in
+    let len : length (s .args .t1) ≡ 64 = search needs in
+    search (needs, len)
 
 returns : tie.Need-returns Inv-loop μ-loop
 returns c =
-    let a = c .before .before .before .before .args in
-    let l = c .before .before .before .loop in
+    let a = c .before .before .before .before .before .before .args in
+    let l = c .before .before .before .before .loop in
     let len : length (a .t1) ≡ 64 = search needs in
     sym (distinct-hit (a .t1) (a .n) (l .i) (sym (c .before .is-in .ensures) ∙ c .if1 .taken) (omega arith) (omega arith)) ∙ l .inv
 
@@ -45,14 +51,14 @@ loop-less c = search needs
 
 loop-again : tie.Need-loop-again Inv-loop μ-loop
 loop-again c =
-    let a = c .before .before .before .before .args in
-    let l = c .before .before .before .loop in
+    let a = c .before .before .before .before .before .before .args in
+    let l = c .before .before .before .before .loop in
     let len : length (a .t1) ≡ 64 = search needs in
     sym (distinct-on (a .t1) (a .n) (l .i) (sym (c .before .is-in .ensures) ∙ c .if1 .left) (omega arith) (omega arith)) ∙ l .inv
 
 returns-2 : tie.Need-returns-2 Inv-loop μ-loop
 returns-2 c =
-    let a = c .before .before .args in
+    let a = c .before .before .before .args in
     let l = c .before .loop in
     sym (distinct-end (a .t1) (a .n) (l .i) (omega arith)) ∙ l .inv
 
@@ -62,10 +68,11 @@ are-distinct-spec =
     (tie.spec
     Inv-loop
     μ-loop
+    slice-aggregate-all
     loop-holds
     add-is-in
     mul-is-in
-    array-read-is-in
+    shared-slice-read-is-in
     is-in-requires
     returns
     add-i

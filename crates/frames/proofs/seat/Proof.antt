@@ -1,6 +1,6 @@
 -- `frames::seat` meets its contract: each of its three ways out is a law of proofs/Values.antt. Assumes nothing.
 use mathlib.Core.Path.{_≡_, sym, _∙_}
-use Prim.Native.Nat.{ℕ, _<_, min}
+use Prim.Native.Nat.{ℕ, _≤_, _<_, min}
 use native.Mathlib.Omega.{arith}
 use lib.ListN.{length}
 use Rattle.sorted.proofs.Laws.{length-min}
@@ -18,14 +18,22 @@ room size most n e h = omega arith
 held-requires : tie.Need-held-requires
 held-requires c κs = search needs
 
+slice-aggregate-is-in : tie.Need-slice-aggregate-is-in
+slice-aggregate-is-in c = search needs
+
 is-in-requires : tie.Need-is-in-requires
-is-in-requires c κs = search needs
+is-in-requires c κs =
+    let h = c .before .before .held in
+    let a = c .before .before .before .args in
+    let len : length (a .f .pages) ≡ 64 = search needs in
+    let m : h .result ≤ 64 = omega (arith, h .ensures) in
+    search (needs, len, m)
 
 returns : tie.Need-returns
 returns c =
     let i = c .before .is-in in
-    let h = c .before .before .before .held in
-    let a = c .before .before .before .before .args in
+    let h = c .before .before .before .before .held in
+    let a = c .before .before .before .before .before .args in
     let len : length (a .f .pages) ≡ 64 = search needs in
     let l = held-list (a .f .pages) (a .f .count) 64 (h .result) len (h .ensures) in
     sym (seat-old 64 4096 (a .f) (a .size) (a .page) (rw l (sym (i .ensures) ∙ c .if1 .taken)))
@@ -37,8 +45,8 @@ returns-2 : tie.Need-returns-2
 returns-2 c =
     let n = c .before .frame-count in
     let i = c .before .before .before .is-in in
-    let h = c .before .before .before .before .before .held in
-    let a = c .before .before .before .before .before .before .args in
+    let h = c .before .before .before .before .before .before .held in
+    let a = c .before .before .before .before .before .before .before .args in
     let len : length (a .f .pages) ≡ 64 = search needs in
     let l = held-list (a .f .pages) (a .f .count) 64 (h .result) len (h .ensures) in
     let k : length (residentOf (a .f)) ≡ min (a .f .count) 64 = length-min (a .f .pages) (a .f .count) 64 len in
@@ -50,8 +58,8 @@ mul-a c = search needs
 array-write-a : tie.Need-array-write-a
 array-write-a c =
     let n = c .before .frame-count in
-    let h = c .before .before .before .before .before .held in
-    let a = c .before .before .before .before .before .before .args in
+    let h = c .before .before .before .before .before .before .held in
+    let a = c .before .before .before .before .before .before .before .args in
     room (a .size) (n .result) (h .result) (n .ensures) (c .if2 .left)
 
 add-count : tie.Need-add-count
@@ -61,8 +69,8 @@ returns-3 : tie.Need-returns-3
 returns-3 c =
     let n = c .before .frame-count in
     let i = c .before .before .before .is-in in
-    let h = c .before .before .before .before .before .held in
-    let a = c .before .before .before .before .before .before .args in
+    let h = c .before .before .before .before .before .before .held in
+    let a = c .before .before .before .before .before .before .before .args in
     let len : length (a .f .pages) ≡ 64 = search needs in
     let l = held-list (a .f .pages) (a .f .count) 64 (h .result) len (h .ensures) in
     let k : length (residentOf (a .f)) ≡ min (a .f .count) 64 = length-min (a .f .pages) (a .f .count) 64 len in
@@ -75,6 +83,7 @@ seat-spec =
     tie.close
     (tie.spec
     held-requires
+    slice-aggregate-is-in
     is-in-requires
     returns
     frame-count-requires

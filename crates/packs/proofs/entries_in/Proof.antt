@@ -1,28 +1,38 @@
 -- `packs::entries_in` meets its contract: the entries that are read, and then those that are left. The measure is how many are left. Assumes nothing.
-use mathlib.Core.Path.{_≡_, refl, sym, _∙_}
+use mathlib.Core.Path.{_≡_, sym, ap, _∙_}
 use mathlib.Core.List.{_++_}
-use Prim.Native.Nat.{_+_, _-_, _*_}
+use Prim.Native.Nat.{_+_, _-_, _*_, _≤_}
 use native.Mathlib.Omega.{arith}
 use borrow.Author.Needs.{needs}
-use lib.ListN.{length, take, drop, length-set}
+use lib.ListN.{length, take, drop, replicate, length-set}
 use Rattle.sorted.proofs.Laws.{length-of-mapped}
+use Rattle.table.specs.declared.Table.{Table}
+use Rattle.table.specs.Entries.{blank, emptyTable}
 use Rattle.packs.specs.Packs.{readAll, entryIn}
-use Rattle.packs.proofs.Laws.{read-turn, read-end}
+use Rattle.packs.proofs.Laws.{hold-start, hold-turn, hold-end}
 use Rattle.packs.proofs.entries_in.Statement.{statement}
 use Rattle.packs.proofs.entries_in.Tie as tie
 
 abbrev Inv-loop : tie.InvT-loop
-Inv-loop b a₀ i₀ a i =
-    (length a ≡ 256) × (take i a ++ readAll 24 entryIn (256 - i) (drop (56 + 24 * i) b) ≡ readAll 24 entryIn 256 (drop 56 b))
+Inv-loop b n a₀ i₀ a i =
+    (length a ≡ 256) × (i ≤ n) ×
+    (take i a ++ (readAll 24 entryIn (n - i) (drop (56 + 24 * i) b) ++ drop n a) ≡ readAll 24 entryIn n (drop 56 b) ++ replicate (256 - n) blank)
 
 abbrev μ-loop : tie.MeasureT-loop
-μ-loop b a₀ i₀ a i = 256 - i
+μ-loop b n a₀ i₀ a i = n - i
 
 empty-requires : tie.Need-empty-requires Inv-loop μ-loop
 empty-requires c κs = search needs
 
 loop-holds : tie.Need-loop-holds Inv-loop μ-loop
-loop-holds c = (search (needs, length-of-mapped), refl)
+unfolding emptyTable
+loop-holds c =
+    let e = c .before in
+    let a = e .before .before .args in (
+      search (needs, length-of-mapped),
+      omega arith,
+      hold-start 24 entryIn (a .n) 56 256 blank (e .empty .result .entries) (a .b .now) (ap (λ (t : Table). t .entries) (e .empty .ensures)),
+    )
 
 mul-entry-in : tie.Need-mul-entry-in Inv-loop μ-loop
 mul-entry-in c = search needs
@@ -50,14 +60,16 @@ loop-again c =
     let l = c .before .before .loop in
     let a = c .before .before .before .before .before .before .args in (
       simp length-set (l .inv .0),
-      read-turn 24 entryIn 256 (l .i) 56 (l .a) (a .b .now) (c .entry-in .result) (omega arith) (omega (arith, l .inv .0)) (c .entry-in .ensures) ∙ l .inv .1,
+      omega arith,
+      hold-turn 24 entryIn (a .n) (l .i) 56 (l .a) (a .b .now) (c .entry-in .result) (omega arith) (omega (arith, l .inv .0)) (c .entry-in .ensures)
+          ∙ l .inv .2,
     )
 
 returns : tie.Need-returns Inv-loop μ-loop
 returns c =
     let l = c .before .loop in
     let a = c .before .before .before .before .before .args in
-    sym (read-end 24 entryIn 256 (l .i) (l .a) (drop (56 + 24 * l .i) (a .b .now)) (omega arith) (l .inv .0)) ∙ l .inv .1
+    sym (hold-end 24 entryIn (a .n) (l .i) (l .a) (drop (56 + 24 * l .i) (a .b .now)) (omega arith) (l .inv .1)) ∙ l .inv .2
 
 pub entries-in-spec : {M : Type 1} → statement M
 entries-in-spec =

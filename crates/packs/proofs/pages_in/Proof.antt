@@ -1,26 +1,27 @@
 -- `packs::pages_in` meets its contract: the pages that are read, and then those that are left. The measure is how many are left. Assumes nothing.
 use mathlib.Core.Path.{_≡_, refl, sym, _∙_}
 use mathlib.Core.List.{_++_}
-use Prim.Native.Nat.{_+_, _-_, _*_}
+use Prim.Native.Nat.{_+_, _-_, _*_, _≤_}
 use native.Mathlib.Omega.{arith}
 use borrow.Author.Needs.{needs}
-use lib.ListN.{length, take, drop, length-set}
-use Rattle.packs.specs.Packs.{readAll, field, pagesIn}
-use Rattle.packs.proofs.Laws.{read-turn, read-end}
+use lib.ListN.{length, take, drop, replicate, length-set}
+use Rattle.packs.specs.Packs.{readAll, field}
+use Rattle.packs.proofs.Laws.{hold-start, hold-turn, hold-end}
 use Rattle.packs.proofs.pages_in.Statement.{statement}
 use Rattle.packs.proofs.pages_in.Tie as tie
 
 abbrev Inv-loop : tie.InvT-loop
-Inv-loop b at a₀ i₀ a i =
-    (length a ≡ 64) × (take i a ++ readAll 4 (field 4 0) (64 - i) (drop (at + 4 * i) b) ≡ readAll 4 (field 4 0) 64 (drop at b))
+Inv-loop b at n a₀ i₀ a i =
+    (length a ≡ 64) × (i ≤ n) ×
+    (take i a ++ (readAll 4 (field 4 0) (n - i) (drop (at + 4 * i) b) ++ drop n a) ≡ readAll 4 (field 4 0) n (drop at b) ++ replicate (64 - n) 0)
 
 abbrev μ-loop : tie.MeasureT-loop
-μ-loop b at a₀ i₀ a i = 64 - i
+μ-loop b at n a₀ i₀ a i = n - i
 
 loop-holds : tie.Need-loop-holds Inv-loop μ-loop
 loop-holds c =
-    let a0 : c .before .args .at + 4 * 0 ≡ c .before .args .at = omega arith in
-    (refl, rw a0)
+    let a = c .before .args in
+    (refl, omega arith, hold-start 4 (field 4 0) (a .n) (a .at) 64 0 (replicate 64 0) (a .b .now) refl)
 
 mul-get-u32 : tie.Need-mul-get-u32 Inv-loop μ-loop
 mul-get-u32 c = search needs
@@ -48,16 +49,16 @@ loop-again c =
     let l = c .before .before .loop in
     let a = c .before .before .before .before .args in (
       simp length-set (l .inv .0),
-      read-turn 4 (field 4 0) 64 (l .i) (a .at) (l .a) (a .b .now) (c .get-u32 .result) (omega arith) (omega (arith, l .inv .0))
-          (c .get-u32 .ensures) ∙ l .inv .1,
+      omega arith,
+      hold-turn 4 (field 4 0) (a .n) (l .i) (a .at) (l .a) (a .b .now) (c .get-u32 .result) (omega arith) (omega (arith, l .inv .0))
+          (c .get-u32 .ensures) ∙ l .inv .2,
     )
 
 returns : tie.Need-returns Inv-loop μ-loop
-unfolding pagesIn
 returns c =
     let l = c .before .loop in
     let a = c .before .before .before .args in
-    sym (read-end 4 (field 4 0) 64 (l .i) (l .a) (drop (a .at + 4 * l .i) (a .b .now)) (omega arith) (l .inv .0)) ∙ l .inv .1
+    sym (hold-end 4 (field 4 0) (a .n) (l .i) (l .a) (drop (a .at + 4 * l .i) (a .b .now)) (omega arith) (l .inv .1)) ∙ l .inv .2
 
 pub pages-in-spec : {M : Type 1} → statement M
 pages-in-spec =

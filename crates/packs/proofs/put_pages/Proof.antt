@@ -3,7 +3,7 @@ use mathlib.Core.Path.{_≡_, refl, sym, _∙_}
 use Prim.Native.Nat.{_+_, _-_, _*_}
 use native.Mathlib.Omega.{arith}
 use borrow.Author.Needs.{needs}
-use lib.ListN.{length, drop}
+use lib.ListN.{length, take, drop}
 use lib.Seq.{sets}
 use Rattle.fields.specs.Bytes.{bytesOf}
 use Rattle.fields.proofs.ByteLaws.{length-bytesOf}
@@ -13,11 +13,11 @@ use Rattle.packs.proofs.put_pages.Statement.{statement}
 use Rattle.packs.proofs.put_pages.Tie as tie
 
 abbrev Inv-loop : tie.InvT-loop
-Inv-loop b₀ at pages i₀ b i =
-    (length b ≡ length b₀) × (sets b (at + 4 * i) (laidAll (bytesOf 4) (drop i pages)) ≡ sets b₀ at (laidAll (bytesOf 4) pages))
+Inv-loop b₀ at n pages i₀ b i =
+    (length b ≡ length b₀) × (sets b (at + 4 * i) (laidAll (bytesOf 4) (drop i (take n pages))) ≡ sets b₀ at (laidAll (bytesOf 4) (take n pages)))
 
 abbrev μ-loop : tie.MeasureT-loop
-μ-loop b₀ at pages i₀ b i = 64 - i
+μ-loop b₀ at n pages i₀ b i = n - i
 
 loop-holds : tie.Need-loop-holds Inv-loop μ-loop
 loop-holds c =
@@ -52,7 +52,7 @@ loop-again c =
     let a = k .before .before .before .before .before .args in
     let len : length (a .t3) ≡ 64 = search needs in (
       k .put-u32 .kept .0 ∙ l .inv .0,
-      laid-turn (bytesOf 4) 4 (length-bytesOf 4) (a .t3) 0 (a .at) (l .i) (l .b) _ (omega arith) (k .put-u32 .ensures) ∙ l .inv .1,
+      laid-turn (bytesOf 4) 4 (length-bytesOf 4) (a .t3) 0 (a .n) (a .at) (l .i) (l .b) _ (omega arith) (omega arith) (k .put-u32 .ensures) ∙ l .inv .1,
     )
 
 same-length : tie.Need-same-length Inv-loop μ-loop
@@ -63,7 +63,7 @@ returns c =
     let l = c .before .loop in
     let a = c .before .before .before .args in
     let len : length (a .t3) ≡ 64 = search needs in
-    sym (laid-end (bytesOf 4) 4 (length-bytesOf 4) (a .t3) (a .at + 4 * l .i) (l .i) (l .b) (omega arith)) ∙ l .inv .1
+    sym (laid-end (bytesOf 4) 4 (length-bytesOf 4) (a .t3) (a .n) (a .at + 4 * l .i) (l .i) (l .b) (omega arith)) ∙ l .inv .1
 
 pub put-pages-spec : {M : Type 1} → statement M
 put-pages-spec =

@@ -13,6 +13,9 @@ slot-id-requires c κs = search needs
 put-u64-requires : tie.Need-put-u64-requires
 put-u64-requires c κs = search needs
 
+add-put-u64 : tie.Need-add-put-u64
+add-put-u64 c = search needs
+
 put-u64-requires-2 : tie.Need-put-u64-requires-2
 put-u64-requires-2 c κs = search needs
 
@@ -26,7 +29,7 @@ returns c =
     let i = k₁ .before .before in
     let t = i .before in
     let a = t .before .before .args in
-    slot-laid (a .slot) (a .b .now) (k₁ .put-u64 .last .0) (k₂ .put-u642 .last .0) (rw (← t .slot-tag .ensures) (k₁ .put-u64 .ensures))
+    slot-laid (a .at) (a .slot) (a .b .now) (k₁ .put-u64 .last .0) (k₂ .put-u642 .last .0) (rw (← t .slot-tag .ensures) (k₁ .put-u64 .ensures))
     (rw (← i .slot-id .ensures) (k₂ .put-u642 .ensures))
 
 pub put-slot-spec : {M : Type 1} → statement M
@@ -36,6 +39,7 @@ put-slot-spec =
     slot-tag-requires
     slot-id-requires
     put-u64-requires
+    add-put-u64
     put-u64-requires-2
     same-length
     returns)

@@ -28,8 +28,8 @@ table-in-requires c κs = search needs
 frames-in-requires : tie.Need-frames-in-requires
 frames-in-requires c κs = search needs
 
-held-in-requires : tie.Need-held-in-requires
-held-in-requires c κs = search needs
+transaction-of-requires : tie.Need-transaction-of-requires
+transaction-of-requires c κs = search needs
 
 get-u32-requires : tie.Need-get-u32-requires
 get-u32-requires c κs = search needs
@@ -46,7 +46,7 @@ returns c =
     let k₁ = k₂ .before in
     rw (
       c .get-u32 .ensures,
-      c .before .held-in .ensures,
+      c .before .transaction-of .ensures,
       c .before .before .frames-in .ensures,
       t .table-in .ensures,
       k₆ .get-u646 .ensures,
@@ -69,6 +69,6 @@ store-in-spec =
     get-u64-requires-6
     table-in-requires
     frames-in-requires
-    held-in-requires
+    transaction-of-requires
     get-u32-requires
     returns)

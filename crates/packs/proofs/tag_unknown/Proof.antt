@@ -10,13 +10,15 @@ use Rattle.packs.proofs.tag_unknown.Statement.{statement}
 use Rattle.packs.proofs.tag_unknown.Tie as tie
 
 abbrev Inv-loop : tie.InvT-loop
-Inv-loop b i₀ i = unknownTag (256 - i) (drop (56 + 24 * i) b) ≡ unknownTag 256 (drop 56 b)
+Inv-loop b n i₀ i = unknownTag (n - i) (drop (56 + 24 * i) b) ≡ unknownTag n (drop 56 b)
 
 abbrev μ-loop : tie.MeasureT-loop
-μ-loop b i₀ i = 256 - i
+μ-loop b n i₀ i = n - i
 
 loop-holds : tie.Need-loop-holds Inv-loop μ-loop
-loop-holds c = refl
+loop-holds c =
+    let n0 : c .before .args .n - 0 ≡ c .before .args .n = omega arith in
+    rw n0
 
 mul-at : tie.Need-mul-at Inv-loop μ-loop
 mul-at c = search needs
@@ -35,7 +37,7 @@ returns c =
     let l = c .before .before .before .loop in
     let a = c .before .before .before .before .before .args in
     let h : 2 < field 8 (56 + 24 * l .i + 8) (a .b .now) = rw (← c .before .get-u64 .ensures) (c .if1 .taken) in
-    sym (unknown-here 256 (l .i) 56 (a .b .now) (omega arith) h) ∙ l .inv
+    sym (unknown-here (a .n) (l .i) 56 (a .b .now) (omega arith) h) ∙ l .inv
 
 add-i : tie.Need-add-i Inv-loop μ-loop
 add-i c = search needs
@@ -48,13 +50,13 @@ loop-again c =
     let l = c .before .before .before .loop in
     let a = c .before .before .before .before .before .args in
     let h : field 8 (56 + 24 * l .i + 8) (a .b .now) ≤ 2 = rw (← c .before .get-u64 .ensures) (c .if1 .left) in
-    sym (unknown-on 256 (l .i) 56 (a .b .now) (omega arith) h) ∙ l .inv
+    sym (unknown-on (a .n) (l .i) 56 (a .b .now) (omega arith) h) ∙ l .inv
 
 returns-2 : tie.Need-returns-2 Inv-loop μ-loop
 returns-2 c =
     let l = c .before .loop in
     let a = c .before .before .before .args in
-    sym (unknown-end 256 (l .i) 56 (drop (56 + 24 * l .i) (a .b .now)) (omega arith)) ∙ l .inv
+    sym (unknown-end (a .n) (l .i) 56 (drop (56 + 24 * l .i) (a .b .now)) (omega arith)) ∙ l .inv
 
 pub tag-unknown-spec : {M : Type 1} → statement M
 tag-unknown-spec =

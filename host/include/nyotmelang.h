@@ -1,0 +1,254 @@
+/* nyotmelang.h: the storage layer as functions for C. host/library builds the archive to link, target/staticlib/libnyotmelang.a, for x86-64.
+ *
+ * A slice is a pointer and a length. No two buffers of a call may overlap where one of them is written; nothing else is asked of a caller: every function is
+ * proved to answer for any bytes, numbers and lengths, to read and write inside what it is lent, and to keep no pointer. A pointer with length 0 is not followed.
+ *
+ * A function that answers uint8_t gives one of the numbers below. A refusal changes no byte of any buffer that is lent for writing, with these exceptions:
+ *  - an opening refused with NYOTMELANG_TORN or NYOTMELANG_UNKNOWN_TAG has laid the images before the bad record into the database, and *told is the database's
+ *    new length; every refused opening leaves in store one that each call answers with NYOTMELANG_OUT_OF_FORM;
+ *  - pager_uninstall puts an empty place, tag, id and count 0, over the front of tx, unless no store stands in its buffer;
+ *  - numbers that are handed out by a pointer (told, id, page, entries, values) are written by refusals too.
+ */
+#ifndef NYOTMELANG_H
+#define NYOTMELANG_H
+
+#include <stddef.h>
+#include <stdint.h>
+
+#ifdef __cplusplus
+extern "C" {
+#endif
+
+/* ---- answers */
+
+#define NYOTMELANG_ACCEPTED 0
+/* A log or database buffer over NYOTMELANG_BUFFER_LIMIT, a clog buffer over NYOTMELANG_CLOG_LIMIT, a frame buffer under one page, a length over its buffer, a
+ * reading place past the length, or a clog length under 8 in a clog call other than open and reset. */
+#define NYOTMELANG_UNFIT 1
+/* A log record's tag is present but its fields are cut short. */
+#define NYOTMELANG_TORN 2
+/* A record's tag is not 1 to 5. */
+#define NYOTMELANG_UNKNOWN_TAG 3
+/* The log would outgrow its buffer. */
+#define NYOTMELANG_LOG_FULL 4
+/* The database would outgrow its buffer. */
+#define NYOTMELANG_DATABASE_FULL 5
+/* The clog would outgrow its buffer. */
+#define NYOTMELANG_CLOG_FULL 6
+/* The table would pass 256 entries. */
+#define NYOTMELANG_TABLE_FULL 7
+/* A frame is needed and all are taken; a page keeps its frame. */
+#define NYOTMELANG_FRAMES_FULL 8
+/* Install while a transaction is installed. */
+#define NYOTMELANG_OCCUPIED 9
+/* A page number handed in, in a list too, is NYOTMELANG_NO_PAGE, or a page is allocated when the page count is that. */
+#define NYOTMELANG_BAD_PAGE 10
+/* A 65th touched page. */
+#define NYOTMELANG_TOUCHED_FULL 11
+/* Format version neither 0 nor 2. */
+#define NYOTMELANG_BAD_VERSION 12
+/* The slice for the table is shorter than the table. */
+#define NYOTMELANG_SLICE_SHORT 13
+/* A store or transaction value out of form: table or touched pages not ascending or over their limit, frames repeated or over the limit, a frame or touched page
+ * numbered NYOTMELANG_NO_PAGE, log or clog length under 8; or bytes that are too short for one. */
+#define NYOTMELANG_OUT_OF_FORM 14
+
+/* ---- sizes and limits */
+
+#define NYOTMELANG_PAGE_BYTES 4096
+#define NYOTMELANG_BUFFER_LIMIT 16777216
+#define NYOTMELANG_CLOG_LIMIT 1048576
+#define NYOTMELANG_HEADER_BYTES 8
+#define NYOTMELANG_STORE_BYTES 6748
+#define NYOTMELANG_ENTRY_BYTES 24
+#define NYOTMELANG_TRANSACTION_BYTES 280
+#define NYOTMELANG_TABLE_LIMIT 256
+#define NYOTMELANG_FRAMES_LIMIT 64
+#define NYOTMELANG_TOUCHED_LIMIT 64
+/* No page has this number. */
+#define NYOTMELANG_NO_PAGE UINT32_C(4294967295)
+
+/* ---- kinds */
+
+/* Of a status, in an entry and in clog_record. */
+#define NYOTMELANG_ACTIVE 0
+#define NYOTMELANG_COMMITTED 1
+#define NYOTMELANG_ABORTED 2
+
+/* Of a log record, as log_read tells it. */
+#define NYOTMELANG_RECORD_END 0
+#define NYOTMELANG_RECORD_IMAGE 1
+#define NYOTMELANG_RECORD_BEGIN 2
+#define NYOTMELANG_RECORD_COMMIT 3
+#define NYOTMELANG_RECORD_ABORT 4
+#define NYOTMELANG_RECORD_CHECKPOINT 5
+
+/* Of a store of a call, as pager_X_told tells it. */
+#define NYOTMELANG_STORE_NONE 0
+#define NYOTMELANG_STORE_APPEND 1
+#define NYOTMELANG_STORE_PAGE 2
+#define NYOTMELANG_STORE_CLOG 3
+#define NYOTMELANG_STORE_TRUNCATION 4
+
+/* ---- the packed store
+ *
+ * What a store remembers stands in NYOTMELANG_STORE_BYTES bytes that the caller lends as `store`. All numbers are little-endian. From byte
+ *
+ *      0  the lengths of log, database and clog, 8 bytes each
+ *     24  next id, next commit time, frozen mark, 8 bytes each
+ *     48  how many entries the table has, 8 bytes
+ *     56  the table's 256 places, 24 bytes each: id, tag, time, 8 bytes each; the tag is NYOTMELANG_ACTIVE, _COMMITTED or _ABORTED, the time 0 where it is not
+ *         committed
+ *   6200  how many pages are resident, 8 bytes
+ *   6208  the 64 places of resident pages, 4 bytes each; the page at place i stands in the frame buffer from byte 4096 i on
+ *   6464  the transaction's place, NYOTMELANG_TRANSACTION_BYTES long: its tag, 8 bytes, 0 for empty and 1 for installed, its id, 8 bytes, how many pages are
+ *         touched, 8 bytes, and the 64 places of touched pages, 4 bytes each
+ *   6744  the page count, 4 bytes
+ *
+ * Places past a count are neither read nor written. pager_open writes the store; the caller hands it to each call with the same four buffers. The lengths of the
+ * files after an accepted call are its first 24 bytes.
+ */
+#define NYOTMELANG_AT_LOG_LENGTH 0
+#define NYOTMELANG_AT_DATABASE_LENGTH 8
+#define NYOTMELANG_AT_CLOG_LENGTH 16
+#define NYOTMELANG_AT_NEXT_ID 24
+#define NYOTMELANG_AT_NEXT_TIME 32
+#define NYOTMELANG_AT_MARK 40
+#define NYOTMELANG_AT_TABLE 48
+#define NYOTMELANG_AT_FRAMES 6200
+#define NYOTMELANG_AT_TRANSACTION 6464
+#define NYOTMELANG_AT_PAGES 6744
+
+/* ---- opening and the calls
+ *
+ * In all of them: store, store_bytes; then the call's own arguments; then log, database, clog and frame buffer, each with its size.
+ */
+
+/* Opens the files of these lengths. *told: the database's length where it is accepted or refused with 2 or 3, else 0. */
+uint8_t pager_open(uint8_t *store, size_t store_bytes, size_t log_len, size_t db_len, size_t clog_len, uint8_t *log, size_t log_bytes, uint8_t *db,
+                   size_t db_bytes, uint8_t *clog, size_t clog_bytes, const uint8_t *frames, size_t frames_bytes, size_t *told);
+
+uint8_t pager_begin(uint8_t *store, size_t store_bytes, uint64_t id, uint8_t *log, size_t log_bytes, uint8_t *db, size_t db_bytes, uint8_t *clog,
+                    size_t clog_bytes, uint8_t *frames, size_t frames_bytes);
+uint8_t pager_flush(uint8_t *store, size_t store_bytes, uint32_t page, uint8_t *log, size_t log_bytes, uint8_t *db, size_t db_bytes, uint8_t *clog,
+                    size_t clog_bytes, uint8_t *frames, size_t frames_bytes);
+uint8_t pager_commit(uint8_t *store, size_t store_bytes, uint8_t *log, size_t log_bytes, uint8_t *db, size_t db_bytes, uint8_t *clog, size_t clog_bytes,
+                     uint8_t *frames, size_t frames_bytes);
+/* With a list of `pages` catalog pages. */
+uint8_t pager_rollback(uint8_t *store, size_t store_bytes, const uint32_t *list, size_t pages, uint8_t *log, size_t log_bytes, uint8_t *db, size_t db_bytes,
+                       uint8_t *clog, size_t clog_bytes, uint8_t *frames, size_t frames_bytes);
+uint8_t pager_advance(uint8_t *store, size_t store_bytes, uint64_t mark, uint8_t *log, size_t log_bytes, uint8_t *db, size_t db_bytes, uint8_t *clog,
+                      size_t clog_bytes, uint8_t *frames, size_t frames_bytes);
+
+/* bytes: a page, NYOTMELANG_PAGE_BYTES of them. */
+uint8_t pager_write_page(uint8_t *store, size_t store_bytes, uint32_t page, const uint8_t *bytes, const uint8_t *log, size_t log_bytes, const uint8_t *db,
+                         size_t db_bytes, const uint8_t *clog, size_t clog_bytes, uint8_t *frames, size_t frames_bytes);
+/* The page goes over the front of out; what does not fit is dropped. */
+uint8_t pager_read_page(uint8_t *store, size_t store_bytes, uint32_t page, uint8_t *out, size_t out_bytes, const uint8_t *log, size_t log_bytes,
+                        const uint8_t *db, size_t db_bytes, const uint8_t *clog, size_t clog_bytes, uint8_t *frames, size_t frames_bytes);
+
+/* tx: a transaction as in a packed store; NYOTMELANG_OUT_OF_FORM where it is shorter or its tag is not 1. */
+uint8_t pager_install(uint8_t *store, size_t store_bytes, const uint8_t *tx, size_t tx_bytes, const uint8_t *log, size_t log_bytes, const uint8_t *db,
+                      size_t db_bytes, const uint8_t *clog, size_t clog_bytes, const uint8_t *frames, size_t frames_bytes);
+/* The transaction goes over the front of tx, with tag 0 where none was installed; what does not fit is dropped. */
+uint8_t pager_uninstall(uint8_t *store, size_t store_bytes, uint8_t *tx, size_t tx_bytes, const uint8_t *log, size_t log_bytes, const uint8_t *db,
+                        size_t db_bytes, const uint8_t *clog, size_t clog_bytes, const uint8_t *frames, size_t frames_bytes);
+uint8_t pager_allocate_id(uint8_t *store, size_t store_bytes, const uint8_t *log, size_t log_bytes, const uint8_t *db, size_t db_bytes, const uint8_t *clog,
+                          size_t clog_bytes, const uint8_t *frames, size_t frames_bytes, uint64_t *id);
+uint8_t pager_allocate_page(uint8_t *store, size_t store_bytes, const uint8_t *log, size_t log_bytes, const uint8_t *db, size_t db_bytes, const uint8_t *clog,
+                            size_t clog_bytes, const uint8_t *frames, size_t frames_bytes, uint32_t *page);
+
+/* All entries, NYOTMELANG_ENTRY_BYTES each, over the front of out; NYOTMELANG_SLICE_SHORT where out has no room for them all. */
+uint8_t pager_table(const uint8_t *store, size_t store_bytes, uint8_t *out, size_t out_bytes, const uint8_t *log, size_t log_bytes, const uint8_t *db,
+                    size_t db_bytes, const uint8_t *clog, size_t clog_bytes, const uint8_t *frames, size_t frames_bytes, size_t *entries);
+uint8_t pager_entry_count(const uint8_t *store, size_t store_bytes, const uint8_t *log, size_t log_bytes, const uint8_t *db, size_t db_bytes,
+                          const uint8_t *clog, size_t clog_bytes, const uint8_t *frames, size_t frames_bytes, size_t *entries);
+/* Entry i goes over the front of out; out stays where there is none. */
+uint8_t pager_entry(const uint8_t *store, size_t store_bytes, size_t i, uint8_t *out, size_t out_bytes, const uint8_t *log, size_t log_bytes,
+                    const uint8_t *db, size_t db_bytes, const uint8_t *clog, size_t clog_bytes, const uint8_t *frames, size_t frames_bytes);
+
+/* ---- cuts, counts, tellings of the five calls with stores
+ *
+ * _to carries the call out to its k-th store, as if power went there; k = 0 is none of them, a k at or past the count all. The packed store and the frames are
+ * left alone; values: the lengths of log, database, clog, then 0.
+ * _count changes nothing; values: the number of stores, 0, 0, 0.
+ * _told tells store k, from 1 on; values: its kind, offset, length, 0, and four 0 for k = 0 and past the count.
+ * values has room for four, and all four are written. A refused call gives its refusal for every k; its values say nothing.
+ */
+
+uint8_t pager_begin_to(const uint8_t *store, size_t store_bytes, uint64_t id, size_t k, uint8_t *log, size_t log_bytes, uint8_t *db, size_t db_bytes,
+                       uint8_t *clog, size_t clog_bytes, const uint8_t *frames, size_t frames_bytes, uint64_t *values);
+uint8_t pager_begin_count(const uint8_t *store, size_t store_bytes, uint64_t id, const uint8_t *log, size_t log_bytes, const uint8_t *db, size_t db_bytes,
+                          const uint8_t *clog, size_t clog_bytes, const uint8_t *frames, size_t frames_bytes, uint64_t *values);
+uint8_t pager_begin_told(const uint8_t *store, size_t store_bytes, uint64_t id, size_t k, const uint8_t *log, size_t log_bytes, const uint8_t *db,
+                         size_t db_bytes, const uint8_t *clog, size_t clog_bytes, const uint8_t *frames, size_t frames_bytes, uint64_t *values);
+
+uint8_t pager_flush_to(const uint8_t *store, size_t store_bytes, uint32_t page, size_t k, uint8_t *log, size_t log_bytes, uint8_t *db, size_t db_bytes,
+                       uint8_t *clog, size_t clog_bytes, const uint8_t *frames, size_t frames_bytes, uint64_t *values);
+uint8_t pager_flush_count(const uint8_t *store, size_t store_bytes, uint32_t page, const uint8_t *log, size_t log_bytes, const uint8_t *db, size_t db_bytes,
+                          const uint8_t *clog, size_t clog_bytes, const uint8_t *frames, size_t frames_bytes, uint64_t *values);
+uint8_t pager_flush_told(const uint8_t *store, size_t store_bytes, uint32_t page, size_t k, const uint8_t *log, size_t log_bytes, const uint8_t *db,
+                         size_t db_bytes, const uint8_t *clog, size_t clog_bytes, const uint8_t *frames, size_t frames_bytes, uint64_t *values);
+
+uint8_t pager_commit_to(const uint8_t *store, size_t store_bytes, size_t k, uint8_t *log, size_t log_bytes, uint8_t *db, size_t db_bytes, uint8_t *clog,
+                        size_t clog_bytes, const uint8_t *frames, size_t frames_bytes, uint64_t *values);
+uint8_t pager_commit_count(const uint8_t *store, size_t store_bytes, const uint8_t *log, size_t log_bytes, const uint8_t *db, size_t db_bytes,
+                           const uint8_t *clog, size_t clog_bytes, const uint8_t *frames, size_t frames_bytes, uint64_t *values);
+uint8_t pager_commit_told(const uint8_t *store, size_t store_bytes, size_t k, const uint8_t *log, size_t log_bytes, const uint8_t *db, size_t db_bytes,
+                          const uint8_t *clog, size_t clog_bytes, const uint8_t *frames, size_t frames_bytes, uint64_t *values);
+
+uint8_t pager_rollback_to(const uint8_t *store, size_t store_bytes, const uint32_t *list, size_t pages, size_t k, uint8_t *log, size_t log_bytes, uint8_t *db,
+                          size_t db_bytes, uint8_t *clog, size_t clog_bytes, const uint8_t *frames, size_t frames_bytes, uint64_t *values);
+uint8_t pager_rollback_count(const uint8_t *store, size_t store_bytes, const uint32_t *list, size_t pages, const uint8_t *log, size_t log_bytes,
+                             const uint8_t *db, size_t db_bytes, const uint8_t *clog, size_t clog_bytes, const uint8_t *frames, size_t frames_bytes,
+                             uint64_t *values);
+uint8_t pager_rollback_told(const uint8_t *store, size_t store_bytes, const uint32_t *list, size_t pages, size_t k, const uint8_t *log, size_t log_bytes,
+                            const uint8_t *db, size_t db_bytes, const uint8_t *clog, size_t clog_bytes, const uint8_t *frames, size_t frames_bytes,
+                            uint64_t *values);
+
+uint8_t pager_advance_to(const uint8_t *store, size_t store_bytes, uint64_t mark, size_t k, uint8_t *log, size_t log_bytes, uint8_t *db, size_t db_bytes,
+                         uint8_t *clog, size_t clog_bytes, const uint8_t *frames, size_t frames_bytes, uint64_t *values);
+uint8_t pager_advance_count(const uint8_t *store, size_t store_bytes, uint64_t mark, const uint8_t *log, size_t log_bytes, const uint8_t *db, size_t db_bytes,
+                            const uint8_t *clog, size_t clog_bytes, const uint8_t *frames, size_t frames_bytes, uint64_t *values);
+uint8_t pager_advance_told(const uint8_t *store, size_t store_bytes, uint64_t mark, size_t k, const uint8_t *log, size_t log_bytes, const uint8_t *db,
+                           size_t db_bytes, const uint8_t *clog, size_t clog_bytes, const uint8_t *frames, size_t frames_bytes, uint64_t *values);
+
+/* ---- the log by itself: a buffer of log_bytes bytes, of which the first len are the log */
+
+/* The place of the first record: after the magic, or the log's end where it does not begin with it. */
+size_t log_start(const uint8_t *log, size_t log_bytes, size_t len);
+/* The record at a place. values: its kind; then of an image page number, place of its bytes in the log, place after it; of a begin or an abort id, place after
+ * it; of a commit id, time, place after it; of a checkpoint the place after it. Four 0 at the end of the log. NYOTMELANG_TORN: values[0] bytes are missing. */
+uint8_t log_read(const uint8_t *log, size_t log_bytes, size_t len, size_t at, uint64_t *values);
+/* values[0]: the new length, where it is accepted. */
+uint8_t log_append_begin(uint8_t *log, size_t log_bytes, size_t len, uint64_t id, uint64_t *values);
+uint8_t log_append_abort(uint8_t *log, size_t log_bytes, size_t len, uint64_t id, uint64_t *values);
+uint8_t log_append_commit(uint8_t *log, size_t log_bytes, size_t len, uint64_t id, uint64_t time, uint64_t *values);
+uint8_t log_append_checkpoint(uint8_t *log, size_t log_bytes, size_t len, uint64_t *values);
+uint8_t log_append_page(uint8_t *log, size_t log_bytes, size_t len, uint32_t page, const uint8_t *bytes, uint64_t *values);
+uint8_t log_truncate(uint8_t *log, size_t log_bytes, size_t len, uint64_t *values);
+
+/* ---- the clog by itself. values[0]: the new length, where it is accepted */
+
+uint8_t clog_open(uint8_t *clog, size_t clog_bytes, size_t len, uint64_t *values);
+uint8_t clog_reset(uint8_t *clog, size_t clog_bytes, size_t len, uint64_t *values);
+/* A status that is none of the three is refused with NYOTMELANG_UNFIT. The clog keeps no time. */
+uint8_t clog_record(uint8_t *clog, size_t clog_bytes, size_t len, uint64_t id, uint64_t status, uint64_t time, uint64_t *values);
+uint8_t clog_compact(uint8_t *clog, size_t clog_bytes, size_t len, uint64_t below, uint64_t *values);
+/* The entries go over the front of table, NYOTMELANG_ENTRY_BYTES each; what does not fit is dropped. values[1]: how many there are. */
+uint8_t clog_load(uint8_t *clog, size_t clog_bytes, size_t len, uint8_t *table, size_t table_bytes, uint64_t *values);
+
+/* ---- page 0 by itself */
+
+/* NYOTMELANG_ACCEPTED, NYOTMELANG_BAD_VERSION or NYOTMELANG_UNFIT. */
+uint8_t meta_format(const uint8_t *db, size_t db_bytes, size_t len);
+/* values: next id, next commit time, frozen mark, 0; four 0 where no meta page stands. */
+uint8_t meta_read(const uint8_t *db, size_t db_bytes, size_t len, uint64_t *values);
+/* A meta page of version 2 is written from a place on; what does not fit is dropped. */
+void meta_put(uint8_t *buf, size_t buf_bytes, size_t at, uint64_t next, uint64_t time, uint64_t mark);
+
+#ifdef __cplusplus
+}
+#endif
+
+#endif

@@ -1,0 +1,43 @@
+//! A safe wrapper around the proved storage layer. [`Files`] has the buffers, [`Store`] what is remembered beside them; every call of the library is a method
+//! of one of the two, and a refusal is a [`Refusal`]. [`script`], [`executor`] and [`transcript`] run scripts of calls in-process, as the program `replay` does;
+//! [`disk`] keeps the three files on disk, as the program `carry` does.
+//!
+//! ```
+//! use nyotmelang::{Call, Files, Refusal, Sizes, Store, TransactionId};
+//! # fn main() -> Result<(), Refusal> {
+//! let mut files = Files::new(Sizes { log: 65536, db: 65536, clog: 4096, frames: 32768 });
+//! let mut store = Store::open(&mut files)?;
+//! store.begin(&mut files, TransactionId(1))?;
+//! store.write_page(&mut files, 1, &[1; 4096])?;
+//! store.flush(&mut files, 1)?;
+//! assert_eq!(store.count(&files, &Call::Commit)?, 7);
+//! store.commit(&mut files)?;
+//! assert_eq!(store.flush(&mut files, u32::MAX), Err(Refusal::BadPage));
+//! # Ok(())
+//! # }
+//! ```
+#![deny(unsafe_code)]
+
+mod bytes;
+mod calls;
+mod crc;
+pub mod disk;
+pub mod executor;
+mod files;
+mod leaves;
+mod port;
+mod refusal;
+pub mod script;
+mod store;
+mod table;
+mod transaction;
+pub mod transcript;
+
+pub use calls::{Call, Kind, Telling};
+pub use crc::crc32;
+pub use files::{File, Files, Lengths, Page, Sizes, PAGE_BYTES};
+pub use leaves::{put_meta, Counters, Found, Record, Unread};
+pub use refusal::{Refusal, REFUSALS};
+pub use store::{Store, FRAMES_LIMIT, STORE_BYTES};
+pub use table::{CommitTime, Entry, Status, TransactionId, ENTRY_BYTES, TABLE_LIMIT};
+pub use transaction::{Transaction, TOUCHED_LIMIT, TRANSACTION_BYTES};
