@@ -1,5 +1,5 @@
--- What stands in a store's bytes after resident pages and page count were stored there: the same store with those two. So a page's calls leave the store that the
--- calls by value leave, but for places past the count of resident pages, which no call sees. Assumes nothing.
+-- What stands in a store's bytes after resident pages and page count were stored there: the store that stood there before, with those two, and blanks past the
+-- count of resident pages. That a page's call by value changes nothing else of a store is not said here. Assumes nothing.
 use mathlib.Core.Path.{_≡_, refl, sym, ap, _∙_}
 use mathlib.Core.List.{List, [], _∷_}
 use mathlib.Core.Bool.{Bool, true, false, cond, _||_}
