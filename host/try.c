@@ -72,6 +72,9 @@ static void begin_and_write(void)
 static void uninstall_and_install(void)
 {
     uint8_t tx[NYOTMELANG_TRANSACTION_BYTES];
+    memset(tx, 7, sizeof tx);
+    CHECK("uninstall, half a frame", pager_uninstall(STORE, tx, sizeof tx, log_, sizeof log_, db_, sizeof db_, clog_, sizeof clog_, frames_, 2048), NYOTMELANG_UNFIT);
+    CHECK("what a refusal left", number_at(tx, 0, 4), 0x07070707);
     CHECK("uninstall", pager_uninstall(STORE, tx, sizeof tx, FILES), NYOTMELANG_ACCEPTED);
     CHECK("its tag", number_at(tx, 0, 8), 1);
     CHECK("its id", number_at(tx, 8, 8), 1);

@@ -6,7 +6,6 @@
  * A function that answers uint8_t gives one of the numbers below. A refusal changes no byte of any buffer that is lent for writing, with these exceptions:
  *  - an opening refused with NYOTMELANG_TORN or NYOTMELANG_UNKNOWN_TAG has laid the images before the bad record into the database, and *told is the database's
  *    new length; every refused opening leaves in store one that each call answers with NYOTMELANG_OUT_OF_FORM;
- *  - pager_uninstall puts an empty place, tag, id and count 0, over the front of tx, unless no store stands in its buffer;
  *  - numbers that are handed out by a pointer (told, id, page, entries, values) are written by refusals too.
  */
 #ifndef NYOTMELANG_H

@@ -7,6 +7,7 @@ use mathlib.Core.Bool.{cond}
 use lib.ListN.{length}
 use lib.Dec.{ltb}
 use borrow.Author.Tests.{le-ltb, lt-ltb}
+use Rattle.fields.specs.Answers.{noTime}
 use Rattle.fields.specs.declared.TransactionId.{TransactionId}
 use Rattle.table.specs.declared.Status.the-variants.{Active}
 use Rattle.table.specs.declared.Entry.{Entry}
@@ -20,15 +21,16 @@ use Rattle.stores.specs.declared.Plan.{Plan}
 use Rattle.stores.specs.declared.Kind.the-variants as kind
 use Rattle.stores.specs.Plans.{meant}
 use Rattle.stores.specs.Room.{numberFor}
-use Rattle.plans.specs.Planned.{planOf, noTime, noCounters}
+use Rattle.plans.specs.Planned.{planOf, noCounters}
 use Rattle.plans.proofs.Meanings.{begin-means}
 use Rattle.form.specs.declared.Store.{Store}
 use Rattle.form.specs.Store.{entriesOf, memOf, worldOf, laidStore}
 use Rattle.form.proofs.Arrays.{Sized}
 use Rattle.form.proofs.Front.{front-means, entries-are, resident-length, frames-same}
 use Rattle.ready.specs.declared.Ready.{Ready}
-use Rattle.ready.specs.Ready.{remembered, readyFor, readied, idle, plain}
-use Rattle.calls.specs.Left.{begunStore}
+use Rattle.ready.specs.Ready.{readied, idle, plain}
+use Rattle.ready.specs.Inside.{remembered, readyFor}
+use Rattle.calls.specs.Inside.{begunStore}
 use Rattle.ready.proofs.Prepared.{ready-no, ready-plain, ready-short, call-hold}
 
 module _ (P : ℕ) (id : TransactionId) (s : Store) (log db clog frames : List ℕ) where

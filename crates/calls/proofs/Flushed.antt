@@ -6,6 +6,7 @@ use mathlib.Core.List.{List, [], _∷_}
 use mathlib.Core.Bool.{true, false, cond}
 use lib.ListN.{length}
 use borrow.Author.Tests.{le-leb, lt-leb, lt-ltb}
+use Rattle.fields.specs.Answers.{noId, noTime}
 use Rattle.fields.proofs.Tests.{Order, less, most, order}
 use Rattle.wal.specs.Records.{image}
 use Rattle.frames.specs.declared.Marked.{Marked}
@@ -27,7 +28,7 @@ use Rattle.stores.specs.declared.Kind.the-variants as kind
 use Rattle.stores.specs.Plans.{meant}
 use Rattle.stores.specs.Room.{numberFor}
 use Rattle.picks.specs.Picks.{seat}
-use Rattle.plans.specs.Planned.{planOf, noId, noTime, noCounters}
+use Rattle.plans.specs.Planned.{planOf, noCounters}
 use Rattle.plans.proofs.Meanings.{flush-means}
 use Rattle.form.specs.declared.Store.{Store}
 use Rattle.form.specs.Store.{residentOf, touchedOf, memOf, worldOf, laidStore, withArray}
@@ -35,8 +36,9 @@ use Rattle.form.proofs.Arrays.{Sized}
 use Rattle.form.proofs.Front.{front-means, entries-length, resident-length, resident-are, touched-are, table-same, frames-same}
 use Rattle.form.proofs.Called.{quiet}
 use Rattle.ready.specs.declared.Ready.{Ready}
-use Rattle.ready.specs.Ready.{remembered, readyFor, readied, idle, plain}
-use Rattle.calls.specs.Left.{markedAs}
+use Rattle.ready.specs.Ready.{readied, idle, plain}
+use Rattle.ready.specs.Inside.{remembered, readyFor}
+use Rattle.calls.specs.Inside.{markedAs}
 use Rattle.ready.proofs.Prepared.{ready-no, ready-none, ready-still, still-short, still-out}
 
 -- ---- by the transaction's place

@@ -18,8 +18,9 @@ ghost use mathlib.Core.Path.{_≡_};
 ghost use Rattle.world.specs.Calls.{Begin, Flush};
 ghost use Rattle.stores.specs.Room.{cutOf};
 ghost use Rattle.form.specs.Store.{outcome, called};
-ghost use Rattle.ready.specs.Ready.{readyFor, readied, calledTo, countedFor, toldBy, toldFor};
-ghost use Rattle.calls.specs.Left.{begunStore, markedAs};
+ghost use Rattle.ready.specs.Ready.{readied, calledTo, countedFor, toldBy, toldFor};
+ghost use Rattle.ready.specs.Inside.{readyFor};
+ghost use Rattle.calls.specs.Inside.{begunStore, markedAs};
 
 // ---- begin
 

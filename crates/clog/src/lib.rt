@@ -19,7 +19,8 @@ ghost use Rattle.fields.specs.Files.{fileOf};
 ghost use Rattle.fields.specs.Answers.{outcome};
 ghost use Rattle.table.specs.Entries.{emptyTable, laid};
 ghost use Rattle.clog.specs.Slots.{codeOf, bitsOf, withBits, highBits, slotOf, cleared, spanBelow, entryOf, entriesIn, inUse, loadedStatus, settledCode, settledByte};
-ghost use Rattle.clog.specs.Calls.{unfit, resetNo, recordNo, compactNo, loadNo, opened, wiped, recorded, compacted, loadOutcome, loaded, seen, seenOf, pushAll, strideOf};
+ghost use Rattle.clog.specs.Calls.{unfit, resetNo, recordNo, compactNo, loadNo, opened, wiped, recorded, compacted, loadOutcome, loaded, seen, seenOf};
+ghost use Rattle.clog.specs.Inside.{pushAll, strideOf};
 
 // The most entries of a table.
 const TABLE_LIMIT: usize = 256;

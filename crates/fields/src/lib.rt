@@ -5,9 +5,9 @@ pub mod numbers;
 
 ghost use mathlib.Core.Path.{_≡_};
 ghost use Prim.Native.Nat.{_-_, _^_, _≤_, _<_, min, max};
-ghost use lib.ListN.{length, take, drop, replicate};
+ghost use lib.ListN.{length, replicate};
 ghost use lib.Seq.{sets};
-ghost use Rattle.fields.specs.Bytes.{leOf, bytesOf, starts};
+ghost use Rattle.fields.specs.Bytes.{field, bytesOf, starts};
 ghost use Rattle.fields.specs.Files.{unfit};
 ghost use Rattle.fields.specs.Answers.{lengthOf};
 
@@ -75,7 +75,7 @@ fn inside(len: usize, at: usize, n: usize) -> usize
 // The number in the n bytes from `at` on, of which the first k lie inside; the last byte first.
 fn digits(b: &[u8], at: usize, n: usize, k: usize) -> u64
     requires { ⌜ (n ≤ 8) × (k ≡ min n (length (now b) - at)) ⌝ }
-    ensures { λ r. ⌜ (r ≡ leOf (take n (drop at (now (b .entry))))) × (r < 256 ^ n) ⌝ }
+    ensures { λ r. ⌜ (r ≡ field n at (now (b .entry))) × (r < 256 ^ n) ⌝ }
 {
     let mut v: u64 = 0;
     let mut i = k;
@@ -89,7 +89,7 @@ fn digits(b: &[u8], at: usize, n: usize, k: usize) -> u64
 // A number that lies inside is read by a loop of known length, which becomes one load.
 fn get(b: &[u8], at: usize, n: usize) -> u64
     requires { ⌜ n ≤ 8 ⌝ }
-    ensures { λ r. ⌜ (r ≡ leOf (take n (drop at (now (b .entry))))) × (r < 256 ^ n) ⌝ }
+    ensures { λ r. ⌜ (r ≡ field n at (now (b .entry))) × (r < 256 ^ n) ⌝ }
 {
     let len = b.len();
     if at <= len {
@@ -131,13 +131,13 @@ fn put(b: &mut [u8], at: usize, n: usize, v: u64)
 }
 
 pub fn get_u32(b: &[u8], at: usize) -> u32
-    ensures { λ r. ⌜ r ≡ leOf (take 4 (drop at (now (b .entry)))) ⌝ }
+    ensures { λ r. ⌜ r ≡ field 4 at (now (b .entry)) ⌝ }
 {
     get(b, at, 4) as u32
 }
 
 pub fn get_u64(b: &[u8], at: usize) -> u64
-    ensures { λ r. ⌜ r ≡ leOf (take 8 (drop at (now (b .entry)))) ⌝ }
+    ensures { λ r. ⌜ r ≡ field 8 at (now (b .entry)) ⌝ }
 {
     get(b, at, 8)
 }

@@ -18,7 +18,8 @@ use Rattle.frames.specs.Pages.{distinct, anyBad, laidFrames, laidTouched, frame
 use Rattle.world.specs.World.{filesOf}
 use Rattle.world.specs.Refusals.{anyOf, badBuffers, badTable, badTouched, badFrames, badStore, frontNo}
 use Rattle.form.specs.declared.Store.{Store}
-use Rattle.form.specs.Store.{entriesOf, residentOf, touchedOf, memOf, worldOf, outOfForm}
+use Rattle.form.specs.Store.{entriesOf, residentOf, touchedOf, memOf, worldOf}
+use Rattle.form.specs.Inside.{outOfForm}
 use Rattle.form.proofs.Arrays.{none-of, length-first, first-fits, first-same, Sized, table-bad, touched-bad, frames-bad, count-most}
 
 -- ---- what the code tests

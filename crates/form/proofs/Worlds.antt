@@ -8,8 +8,12 @@ use Rattle.world.specs.Calls.{Call}
 use Rattle.world.specs.Refusals.{refuses}
 use Rattle.world.specs.Run.{done, decided, call, run}
 use Rattle.form.specs.declared.Store.{Store}
-use Rattle.form.specs.Store.{memOf, worldOf, laidStore, Outcome, worldIn, ending, calledOn}
+use Rattle.form.specs.Store.{memOf, worldOf, laidStore, Outcome, ending, calledOn}
 use Rattle.form.proofs.Arrays.{first-laid}
+
+-- the world that an outcome is
+abbrev pub worldIn : Outcome → World
+worldIn o = worldOf (o .store) (o .log) (o .db) (o .clog) (o .frames)
 
 -- a world laid over a store, read back: no premise
 pub world-laid : (s : Store) (w : World) → worldOf (laidStore s w) (w .files .log .bytes) (w .files .db .bytes) (w .files .clog .bytes) (w .frames) ≡ w

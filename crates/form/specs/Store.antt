@@ -2,21 +2,22 @@
 -- Each array of a store is read as the list of its first count elements. A changed store is its lists laid in front of the old arrays: what stands past a count
 -- stays. A refusal hands back the old store and changes no buffer. Assumes nothing.
 use Prim.Native.Nat.{ℕ, _-_}
-use mathlib.Core.List.{List, [], _∷_, _++_}
-use mathlib.Core.Bool.{Bool}
+use mathlib.Core.List.{List, _++_}
 use lib.ListN.{length, take, replicate}
-use lib.Dec.{ltb}
+use Rattle.fields.specs.Answers.{noId, noTime}
 use Rattle.table.specs.declared.Entry.{Entry}
 use Rattle.table.specs.declared.Table.{Table}
-use Rattle.table.specs.Entries.{blank, laid}
+use Rattle.table.specs.Entries.{blank, emptyTable, laid}
 use Rattle.frames.specs.declared.Frames.{Frames}
 use Rattle.frames.specs.declared.Touched.{Touched}
 use Rattle.frames.specs.declared.Transaction.{Transaction}
-use Rattle.frames.specs.Pages.{laidFrames, laidTouched, frameCount}
+use Rattle.frames.specs.Pages.{laidFrames, laidTouched, emptyFrames, emptyTouched}
+use Rattle.world.specs.declared.Slot.the-variants.{Empty}
 use Rattle.world.specs.World.{Mem, World, filesOf, lensOf}
 use Rattle.world.specs.Calls.{Call, Install}
-use Rattle.world.specs.Refusals.{anyOf, badTable, badTouched, badFrames, refuses}
+use Rattle.world.specs.Refusals.{refuses}
 use Rattle.world.specs.Run.{done, decided, call}
+use Rattle.form.specs.declared.Held.{Held}
 use Rattle.form.specs.declared.Store.{Store}
 use Rattle.form.specs.declared.Changed.{Changed}
 
@@ -66,12 +67,24 @@ laidStore s w =
       held = record { slot = w .mem .slot; touched = laidTouched (s .held .touched) (w .mem .touched) };
     }
 
--- 14 of a store, for a frame buffer of this size
-unfoldable pub outOfForm : ℕ → Store → ℕ → Bool
-outOfForm P s size =
-    anyOf
-    (ltb (s .lens .log) 8 ∷ ltb (s .lens .clog) 8 ∷ badTable (entriesOf (s .table)) ∷ badTouched (touchedOf (s .held .touched)) ∷
-    badFrames (frameCount 64 P size) (residentOf (s .frames)) ∷ [])
+-- ---- no transaction, no store
+
+abbrev pub noHeld : Held
+noHeld = record { slot = Empty; touched = emptyTouched 64 }
+
+-- what stands in the place of a store that there is not, and under the lists of one that was opened
+unfoldable pub noStore : Store
+noStore =
+    record {
+      lens = record { log = 0; db = 0; clog = 0 };
+      pages = 0;
+      next = noId;
+      time = noTime;
+      mark = noId;
+      table = emptyTable 256;
+      frames = emptyFrames 64;
+      held = noHeld;
+    }
 
 -- ---- what comes out of a call: its number, the store, and every byte of the four buffers
 
@@ -85,10 +98,6 @@ pub record Outcome : Type 0 where
 
 abbrev pub outcome : Changed → List ℕ → List ℕ → List ℕ → List ℕ → Outcome
 outcome r log db clog frames = record { number = r .number; store = r .store; log = log; db = db; clog = clog; frames = frames }
-
--- the world that an outcome is
-abbrev pub worldIn : Outcome → World
-worldIn o = worldOf (o .store) (o .log) (o .db) (o .clog) (o .frames)
 
 -- a number, a store, and the buffers of a world
 abbrev pub ending : ℕ → Store → World → Outcome

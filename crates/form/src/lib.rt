@@ -12,7 +12,8 @@ ghost use mathlib.Core.Path.{_≡_};
 ghost use lib.ListN.{length};
 ghost use Rattle.world.specs.World.{filesOf};
 ghost use Rattle.world.specs.Refusals.{badBuffers, frontNo, isInstalled};
-ghost use Rattle.form.specs.Store.{worldOf, outOfForm};
+ghost use Rattle.form.specs.Store.{worldOf};
+ghost use Rattle.form.specs.Inside.{outOfForm};
 
 // The place of the transaction, and its touched pages. The pages stand beside the place, not in it, and are in form also where no transaction is in.
 pub struct Held {

@@ -12,7 +12,8 @@ ghost use lib.Dec.{eqb};
 ghost use lib.Seq.{sets};
 ghost use Rattle.fields.specs.Bytes.{part};
 ghost use Rattle.fields.specs.Files.{fileOf};
-ghost use Rattle.frames.specs.Pages.{isIn, distinct, ascending, anyBad, belowIn, residentOf, touchedOf, emptyFrames, emptyTouched, frameCount, framesFormed, touchedFormed, foundIn, placeTold, seated, marked};
+ghost use Rattle.frames.specs.Pages.{isIn, distinct, ascending, anyBad, residentOf, touchedOf, emptyFrames, emptyTouched, frameCount, framesFormed, touchedFormed, foundIn, placeTold, seated, marked};
+ghost use Rattle.frames.specs.Inside.{belowIn};
 ghost use Rattle.frames.specs.Copies.{pageOf};
 
 // The most frames, and the most touched pages.

@@ -20,7 +20,8 @@ use Rattle.fields.specs.declared.Answer.the-variants.{Accepted, Refused}
 use Rattle.table.specs.declared.Entry.{Entry}
 use Rattle.table.specs.declared.Table.{Table}
 use Rattle.table.specs.Entries.{listOf, ascending, wellFormed}
-use Rattle.hands.specs.Handing.{Handed, handedAs, handedBy, handNo, handed, countIf, replyIf, toHand, replyOf}
+use Rattle.hands.specs.Handing.{Handed, handedAs, handedBy, handNo, handed}
+use Rattle.hands.specs.Inside.{countIf, replyIf, toHand, replyOf}
 
 -- ---- lists
 

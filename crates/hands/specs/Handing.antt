@@ -7,7 +7,6 @@ use mathlib.Core.Bool.{cond}
 use lib.ListN.{length}
 use lib.Dec.{ltb}
 use Rattle.fields.specs.declared.Answer.{Answer}
-use Rattle.fields.specs.declared.Answer.the-variants.{Accepted, Refused}
 use Rattle.fields.specs.Answers.{Told, told}
 use Rattle.sorted.specs.Sorted.{laidOn}
 use Rattle.table.specs.declared.Entry.{Entry}
@@ -37,20 +36,3 @@ handNo N t room (suc before) = suc before
 
 unfoldable pub handed : ℕ → Table → List Entry → ℕ → Handed
 handed N t slice before = handedBy (listOf t) slice (handNo N t (length slice) before)
-
--- ---- what the private functions give
-
--- n where the number is 0, else none
-abbrev pub countIf : ℕ → ℕ → ℕ
-countIf n zero = n
-countIf n (suc k) = 0
-
-abbrev pub replyIf : ℕ → ℕ → Answer
-replyIf n zero = Accepted n
-replyIf n (suc k) = Refused (suc k)
-
-unfoldable pub toHand : ℕ → Table → ℕ → ℕ → ℕ
-toHand N t room before = countIf (t .count) (handNo N t room before)
-
-unfoldable pub replyOf : ℕ → Table → ℕ → ℕ → Answer
-replyOf N t room before = replyIf (t .count) (handNo N t room before)

@@ -8,7 +8,8 @@ ghost use mathlib.Core.Path.{_≡_};
 ghost use Prim.Native.Nat.{_<_};
 ghost use lib.ListN.{getD};
 ghost use Rattle.table.specs.Entries.{blank};
-ghost use Rattle.hands.specs.Handing.{handNo, toHand, replyOf, handedAs, handed};
+ghost use Rattle.hands.specs.Handing.{handNo, handedAs, handed};
+ghost use Rattle.hands.specs.Inside.{toHand, replyOf};
 
 // The number of a hand-out into a slice of room entries, where the tests before it gave a number.
 fn hand_no(t: Table, room: usize, before: u8) -> u8

@@ -8,7 +8,6 @@ use lib.ListN.{length}
 use lib.Seq.{sets}
 use Rattle.table.specs.Entries.{blank, listOf}
 use Rattle.world.specs.Refusals.{orElse, frontNo}
-use Rattle.world.specs.Run.{decided}
 use Rattle.form.specs.declared.Changed.{Changed}
 use Rattle.form.specs.Store.{outcome, memOf, worldOf}
 use Rattle.form.proofs.Arrays.{first-fits}
@@ -19,7 +18,7 @@ use Rattle.packs.specs.declared.TransactionRead.{TransactionRead}
 use Rattle.packs.specs.Packs.{laidAll, entryBytes, packing, keptIn, unpacked, transactionRead}
 use Rattle.packs.specs.Hosted.{Ended, ended, repacked}
 use Rattle.packs.proofs.Laws.{entries-long}
-use Rattle.packs.proofs.Hosting.{kept}
+use Rattle.packs.proofs.Hosting.{kept, decided-no}
 use Rattle.hosting.specs.Hosting.{installing, hostedInstall, tableTold, hostedTable}
 
 -- ---- a refusal, by a number that is not 0
@@ -28,10 +27,6 @@ use Rattle.hosting.specs.Hosting.{installing, hostedInstall, tableTold, 
 else-no : (n m : ℕ) → (n ≡ 0 → ⊥) → orElse n m ≡ n
 else-no zero m h = absurd (h refl)
 else-no (suc n) m h = refl
-
-decided-no : {A : Type 0} (n : ℕ) (a b : A) → (n ≡ 0 → ⊥) → decided n a b ≡ b
-decided-no zero a b h = absurd (h refl)
-decided-no (suc n) a b h = refl
 
 -- ---- an install
 

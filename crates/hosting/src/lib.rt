@@ -33,7 +33,7 @@ pub extern "C" fn pager_install(
     packs::keep(r, store)
 }
 
-// The transaction that was in goes over the front of tx.
+// The transaction that was in goes over the front of tx. A refusal leaves tx as it is.
 #[no_mangle]
 pub extern "C" fn pager_uninstall(
     store: &mut [u8],
@@ -51,13 +51,16 @@ pub extern "C" fn pager_uninstall(
     }
     let s = u.store;
     let x = quiet::uninstall(s, log, db, clog, frames);
+    let changed = x.changed;
+    if changed.number != numbers::ACCEPTED {
+        return changed.number;
+    }
     let held = x.held;
     packs::pack_held(held, tx);
-    let r = x.changed;
-    packs::keep(r, store)
+    packs::keep(changed, store)
 }
 
-// The next id.
+// The next id. A refusal tells 0.
 #[no_mangle]
 pub extern "C" fn pager_allocate_id(
     store: &mut [u8],
@@ -69,19 +72,22 @@ pub extern "C" fn pager_allocate_id(
 ) -> u8
     ensures { λ r. ⌜ handed (now (id .exit)) (ended r (now (store .exit)) (now (log .entry)) (now (db .entry)) (now (clog .entry)) (now (frames .entry))) ≡ hostedGiven (idAllocated 4096) idTold 0 (now (store .entry)) (now (log .entry)) (now (db .entry)) (now (clog .entry)) (now (frames .entry)) ⌝ }
 {
+    *id = 0;
     let u = packs::unpack(&store[..]);
     if u.number != numbers::ACCEPTED {
-        *id = 0;
         return u.number;
     }
     let s = u.store;
     let x = quiet::allocate_id(s, log, db, clog, frames);
-    *id = x.id.0;
     let r = x.changed;
+    if r.number != numbers::ACCEPTED {
+        return r.number;
+    }
+    *id = x.id.0;
     packs::keep(r, store)
 }
 
-// The page count, which is the number of the new page.
+// The page count, which is the number of the new page. A refusal tells 0.
 #[no_mangle]
 pub extern "C" fn pager_allocate_page(
     store: &mut [u8],
@@ -93,15 +99,18 @@ pub extern "C" fn pager_allocate_page(
 ) -> u8
     ensures { λ r. ⌜ handed (now (page .exit)) (ended r (now (store .exit)) (now (log .entry)) (now (db .entry)) (now (clog .entry)) (now (frames .entry))) ≡ hostedGiven (pageAllocated 4096) pageTold 0 (now (store .entry)) (now (log .entry)) (now (db .entry)) (now (clog .entry)) (now (frames .entry)) ⌝ }
 {
+    *page = 0;
     let u = packs::unpack(&store[..]);
     if u.number != numbers::ACCEPTED {
-        *page = 0;
         return u.number;
     }
     let s = u.store;
     let x = quiet::allocate_page(s, log, db, clog, frames);
-    *page = x.page;
     let r = x.changed;
+    if r.number != numbers::ACCEPTED {
+        return r.number;
+    }
+    *page = x.page;
     packs::keep(r, store)
 }
 

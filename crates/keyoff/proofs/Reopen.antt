@@ -7,6 +7,7 @@ use native.Mathlib.Omega.{arith}
 use lib.Dec.{lit<}
 use lib.ListN.{length, length-take}
 use borrow.Author.Tests.{le-ltb}
+use Rattle.table.proofs.Facts.{orKnown, settledKnown}
 use Rattle.fields.specs.declared.CommitTime.{CommitTime}
 use Rattle.fields.specs.Files.{content, room}
 use Rattle.fields.proofs.FileLaws.{fit-ok}
@@ -16,7 +17,7 @@ use Rattle.table.specs.declared.Status.the-variants.{Active, Committed, Aborted
 use Rattle.table.specs.declared.Entry.{Entry}
 use Rattle.table.specs.declared.Known.{Known}
 use Rattle.table.specs.declared.Known.the-variants.{Is, Absent}
-use Rattle.table.specs.Entries.{statusOf, orKnown, settledKnown, largestId}
+use Rattle.table.specs.Entries.{statusOf, largestId}
 use Rattle.clog.specs.Slots.{slotOf}
 use Rattle.clog.proofs.TableLaws.{knownAs, valid-long}
 use Rattle.meta.specs.Page.{hasMeta, formatNo}

@@ -9,8 +9,8 @@ use Rattle.world.specs.declared.Lens.{Lens}
 use Rattle.world.specs.World.{World, filesOf}
 use Rattle.world.specs.Calls.{Call}
 use Rattle.world.specs.Run.{run}
-use Rattle.form.specs.Store.{memOf, worldOf, Outcome, worldIn}
-use Rattle.form.proofs.Worlds.{Ran, ran-is-run}
+use Rattle.form.specs.Store.{memOf, worldOf, Outcome}
+use Rattle.form.proofs.Worlds.{Ran, ran-is-run, worldIn}
 use Rattle.opening.specs.Opening.{Opening, opening, openNo, opened}
 use Rattle.opening.proofs.Laws.{accepted, opened-world}
 use Rattle.keyoff.specs.KeyOff.{OpenedWithMeta, NoZeroFlush, BytesIn, AllTyped, SameStatuses, NextAbove, reopened, Reopens}

@@ -19,8 +19,8 @@ use Rattle.table.specs.declared.Status.the-variants.{Active, Committed, Aborted
 use Rattle.table.specs.declared.Entry.{Entry}
 use Rattle.table.specs.declared.Known.{Known}
 use Rattle.table.specs.declared.Known.the-variants.{Is, Absent}
-use Rattle.table.specs.Entries.{insertEntry, statusOf, orKnown}
-use Rattle.table.proofs.Facts.{set-ascending, status-set, status-kept}
+use Rattle.table.specs.Entries.{insertEntry, statusOf}
+use Rattle.table.proofs.Facts.{set-ascending, status-set, status-kept, orKnown}
 use Rattle.clog.specs.Slots.{codeOf, slotOf, validClog, setSlot, clearSlots}
 use Rattle.clog.proofs.FourSlots.{code-small}
 use Rattle.clog.proofs.SlotLaws.{record-room, record-fit, record-header, record-same, record-other, compact-room, compact-len, compact-low, compact-high, compact-header}

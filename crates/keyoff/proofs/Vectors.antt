@@ -16,7 +16,7 @@ use Rattle.table.specs.declared.Status.the-variants.{Active, Committed, Aborted
 use Rattle.table.specs.declared.Entry.{Entry}
 use Rattle.table.specs.Entries.{largestBy}
 use Rattle.clog.specs.Slots.{clogMagic, bitsOf, withBits, highBits, validClog, openClog, setSlot, recordAll, cleared, clearSlots, codes, loadedStatus, entryOf, entriesFrom, entriesIn, settledCode, settledByte, settled}
-use Rattle.meta.specs.Page.{metaMagic, metaPage, hasMeta, field, version, goodVersion, formatNo}
+use Rattle.meta.specs.Page.{metaMagic, metaPage, hasMeta, version, goodVersion, formatNo}
 use Rattle.frames.specs.Pages.{isIn, slotOf, distinct, anyBad, withPage, frameCount}
 use Rattle.frames.specs.Copies.{pageOf}
 use Rattle.world.specs.World.{Files, World}
@@ -64,7 +64,7 @@ told d o w n = record {
 }
 
 story : Files → List Call → Story
-unfolding leOf bytesOf starts part lay header unfit insertBy insertAllBy ascendingBy logMagic encode bodyOf recordOf decode parse recordsIn startOf logOf largestBy clogMagic bitsOf withBits highBits validClog openClog setSlot recordAll cleared clearSlots codes loadedStatus entryOf entriesFrom entriesIn settledCode settledByte settled metaMagic metaPage hasMeta field goodVersion formatNo isIn slotOf distinct anyBad withPage frameCount pageOf apply applyAll sumOf mostOf heldPage seat write revert keep held catalogPages dataPages committed rolledBack advanced images writes flushSteps commitSteps dataSteps backSteps rollbackSteps advanceSteps steps flushKeeps commitKeeps rollbackKeeps advanceKeeps keeps anyOf badBuffers badTable badTouched badFrames badStore frontNo argumentNo roomNo holdNo callNo refuses done call run replay replayed statuses logTable clogTable fullTable openRoomNo openNo logTime withMeta withoutMeta openedWorld leftBy opening
+unfolding leOf bytesOf starts part lay header unfit insertBy insertAllBy ascendingBy logMagic encode bodyOf recordOf decode parse recordsIn startOf logOf largestBy clogMagic bitsOf withBits highBits validClog openClog setSlot recordAll cleared clearSlots codes loadedStatus entryOf entriesFrom entriesIn settledCode settledByte settled metaMagic metaPage hasMeta goodVersion formatNo isIn slotOf distinct anyBad withPage frameCount pageOf apply applyAll sumOf mostOf heldPage seat write revert keep held catalogPages dataPages committed rolledBack advanced images writes flushSteps commitSteps dataSteps backSteps rollbackSteps advanceSteps steps flushKeeps commitKeeps rollbackKeeps advanceKeeps keeps anyOf badBuffers badTable badTouched badFrames badStore frontNo argumentNo roomNo holdNo callNo refuses done call run replay replayed statuses logTable clogTable fullTable openRoomNo openNo logTime withMeta withoutMeta openedWorld leftBy opening
 story f cs =
     let o = opening 64 f (replicate 256 0) in
     let w = run 64 cs (o .world) in

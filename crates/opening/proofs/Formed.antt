@@ -8,6 +8,7 @@ use native.Mathlib.Omega.{arith}
 use lib.Dec.{eqb, lit<}
 use lib.ListN.{length}
 use borrow.Author.Tests.{ltb-false, leb-false}
+use Rattle.table.proofs.Facts.{orKnown, settledKnown}
 use Rattle.sorted.specs.Sorted.{ascendingBy}
 use Rattle.fields.specs.Files.{File, content, room, header}
 use Rattle.fields.proofs.Tests.{Equal, equal, other, equality, passed, neither}
@@ -18,7 +19,7 @@ use Rattle.table.specs.declared.Status.the-variants.{Active, Committed, Aborted
 use Rattle.table.specs.declared.Entry.{Entry}
 use Rattle.table.specs.declared.Known.{Known}
 use Rattle.table.specs.declared.Known.the-variants.{Is, Absent}
-use Rattle.table.specs.Entries.{idOf, ascending, statusOf, orKnown, settledKnown}
+use Rattle.table.specs.Entries.{idOf, ascending, statusOf}
 use Rattle.clog.specs.Slots.{clogMagic, codeOf, slotOf, validClog, openClog, recordAll, loadedStatus, settled}
 use Rattle.clog.proofs.SlotLaws.{slot-magic, settled-room, settled-len, settled-header}
 use Rattle.clog.proofs.TableLaws.{knownAs, codeOrElse, AllFit, fit-by-status, Recorded, record-all, slots-plain, load-status-plain, settled-entries, open-kept, open-reset, open-room, open-valid, valid-long, valid-same}

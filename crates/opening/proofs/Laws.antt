@@ -25,13 +25,13 @@ use Rattle.world.specs.Steps.{withDb}
 use Rattle.world.specs.Run.{decided}
 use Rattle.world.specs.Refusals.{anyOf, orElse, badBuffers}
 use Rattle.form.specs.declared.Changed.{Changed}
-use Rattle.form.specs.Store.{laidStore, worldIn, Given}
+use Rattle.form.specs.Store.{laidStore, Given, noStore}
 use Rattle.form.proofs.Called.{given-same}
-use Rattle.form.proofs.Worlds.{world-laid}
+use Rattle.form.proofs.Worlds.{world-laid, worldIn}
 use Rattle.opening.specs.declared.Verdict.{Verdict}
 use Rattle.opening.specs.declared.Verdict.the-variants.{Accepted, Refused, Torn, Unknown}
 use Rattle.opening.specs.declared.Opened.{Opened}
-use Rattle.opening.specs.Opening.{records, endNo, replay, replayed, statuses, logTable, clogTable, fullTable, openRoomNo, openNo, logTime, atRest, withMeta, withoutMeta, openedWorld, hasLaid, leftBy, unopened, opening, noStore, verdictTold, openedAs, opened}
+use Rattle.opening.specs.Opening.{records, endNo, replay, replayed, statuses, logTable, clogTable, fullTable, openRoomNo, openNo, logTime, atRest, withMeta, withoutMeta, openedWorld, hasLaid, leftBy, unopened, opening, verdictTold, openedAs, opened}
 
 -- ---- what an opening leaves, by its number
 

@@ -14,8 +14,8 @@ use Rattle.table.specs.declared.Status.the-variants.{Active}
 use Rattle.table.specs.declared.Entry.{Entry}
 use Rattle.table.specs.declared.Known.{Known}
 use Rattle.table.specs.declared.Known.the-variants.{Is, Absent}
-use Rattle.table.specs.Entries.{idOf, insertEntry, insertAll, ascending, statusOf, orKnown, settledKnown}
-use Rattle.table.proofs.Facts.{status-set, status-kept, over-ascending, over-grows, over-status, settle-ascending, settle-status, settle-unfound}
+use Rattle.table.specs.Entries.{idOf, insertEntry, insertAll, ascending, statusOf}
+use Rattle.table.proofs.Facts.{status-set, status-kept, over-ascending, over-grows, over-status, settle-ascending, settle-status, settle-unfound, orKnown, settledKnown, or-known}
 use Rattle.clog.specs.Slots.{slotOf, validClog, entriesIn}
 use Rattle.clog.proofs.TableLaws.{knownAs, load-ascending, load-status-plain}
 use Rattle.meta.specs.Page.{hasMeta}
@@ -34,10 +34,6 @@ lastWord k (r ∷ rs) = orKnown (lastWord k rs) (statusOf k (noted r))
 or-absent : (a : Known) → orKnown a Absent ≡ a
 or-absent (Is s) = refl
 or-absent Absent = refl
-
-or-assoc : (a b c : Known) → orKnown (orKnown a b) c ≡ orKnown a (orKnown b c)
-or-assoc (Is s) b c = refl
-or-assoc Absent b c = refl
 
 pub nothing : (k : ℕ) → statusOf k [] ≡ Absent
 unfolding statusOf lookBy
@@ -70,7 +66,7 @@ unfolding Words statuses insertAllBy lastWord
 more-words k r rs ih l = go r
   where
     set : (e : Entry) → statusOf k (insertAll (statuses rs) (insertEntry e l)) ≡ orKnown (orKnown (lastWord k rs) (statusOf k (e ∷ []))) (statusOf k l)
-    set e = ih (insertEntry e l) ∙ rw (one-word k e l) (sym (or-assoc (lastWord k rs) (statusOf k (e ∷ [])) (statusOf k l)))
+    set e = ih (insertEntry e l) ∙ rw (one-word k e l) (sym (or-known (lastWord k rs) (statusOf k (e ∷ [])) (statusOf k l)))
 
     same : statusOf k (insertAll (statuses rs) l) ≡ orKnown (orKnown (lastWord k rs) (statusOf k [])) (statusOf k l)
     same = ih l ∙ rw (nothing k, or-absent (lastWord k rs))

@@ -13,12 +13,12 @@ use Rattle.table.specs.declared.Status.the-variants.{Aborted}
 use Rattle.table.specs.declared.Entry.{Entry}
 use Rattle.table.specs.Entries.{emptyTable, largestBy}
 use Rattle.clog.specs.Slots.{clogMagic, bitsOf, withBits, validClog, openClog, setSlot, recordAll, codes, loadedStatus, entryOf, entriesFrom, entriesIn, settledCode, settledByte, settled}
-use Rattle.meta.specs.Page.{metaMagic, metaPage, hasMeta, field, goodVersion, formatNo}
+use Rattle.meta.specs.Page.{metaMagic, metaPage, hasMeta, goodVersion, formatNo}
 use Rattle.frames.specs.Pages.{emptyFrames, emptyTouched}
 use Rattle.world.specs.Refusals.{anyOf, badBuffers}
 use Rattle.world.proofs.Values as world
-use Rattle.form.specs.Store.{firstOf, entriesOf, laidStore, Outcome}
-use Rattle.opening.specs.Opening.{replay, replayed, statuses, logTable, clogTable, fullTable, openRoomNo, openNo, logTime, withMeta, withoutMeta, openedWorld, leftBy, opening, noStore, opened}
+use Rattle.form.specs.Store.{firstOf, entriesOf, laidStore, Outcome, noStore}
+use Rattle.opening.specs.Opening.{replay, replayed, statuses, logTable, clogTable, fullTable, openRoomNo, openNo, logTime, withMeta, withoutMeta, openedWorld, leftBy, opening, opened}
 
 -- a value of the crate world; an opening
 pub data Result : Type 0 where
@@ -72,7 +72,7 @@ openings =
     ∷ []
 
 all-openings : map given openings ≡ map said openings
-unfolding logOf startOf starts logMagic parse decode bodyOf recordOf leOf encode bytesOf recordsIn insertBy insertAllBy emptyTable largestBy lay header unfit clogMagic bitsOf withBits validClog openClog setSlot recordAll codes loadedStatus entryOf entriesFrom entriesIn settledCode settledByte settled metaMagic metaPage hasMeta field goodVersion formatNo emptyFrames emptyTouched anyOf badBuffers firstOf laidStore replay replayed statuses logTable clogTable fullTable openRoomNo openNo logTime withMeta withoutMeta openedWorld leftBy opening noStore opened
+unfolding logOf startOf starts logMagic parse decode bodyOf recordOf leOf encode bytesOf recordsIn insertBy insertAllBy emptyTable largestBy lay header unfit clogMagic bitsOf withBits validClog openClog setSlot recordAll codes loadedStatus entryOf entriesFrom entriesIn settledCode settledByte settled metaMagic metaPage hasMeta goodVersion formatNo emptyFrames emptyTouched anyOf badBuffers firstOf laidStore replay replayed statuses logTable clogTable fullTable openRoomNo openNo logTime withMeta withoutMeta openedWorld leftBy opening noStore opened
 all-openings = refl
 
 -- ---- the one list

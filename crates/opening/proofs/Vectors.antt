@@ -4,14 +4,15 @@ use mathlib.Core.List.{List, [], _∷_, _++_}
 use Prim.Native.Nat.{ℕ}
 use lib.ListN.{length, take, replicate}
 use lib.Seq.{sets}
+use Rattle.wal.proofs.ParseLaws.{encodeAll}
 use Rattle.fields.specs.Bytes.{leOf, bytesOf, starts}
 use Rattle.fields.specs.Files.{File, fileOf, content, lay, header, unfit}
 use Rattle.sorted.specs.Sorted.{insertBy, insertAllBy}
-use Rattle.wal.specs.Records.{logMagic, Record, image, begin, commit, encode, encodeAll, bodyOf, recordOf, decode, parse, recordsIn, startOf, logOf}
+use Rattle.wal.specs.Records.{logMagic, Record, image, begin, commit, encode, bodyOf, recordOf, decode, parse, recordsIn, startOf, logOf}
 use Rattle.table.specs.declared.Entry.{Entry}
 use Rattle.table.specs.Entries.{idOf, timeOf, largestBy}
 use Rattle.clog.specs.Slots.{clogMagic, codeOf, bitsOf, withBits, validClog, openClog, setSlot, recordAll, codes, loadedStatus, entryOf, entriesFrom, entriesIn, settledCode, settledByte, settled}
-use Rattle.meta.specs.Page.{metaMagic, metaPage, hasMeta, field, goodVersion, formatNo}
+use Rattle.meta.specs.Page.{metaMagic, metaPage, hasMeta, goodVersion, formatNo}
 use Rattle.world.specs.World.{Files}
 use Rattle.world.specs.Refusals.{anyOf, badBuffers}
 use Rattle.opening.specs.Opening.{replay, replayed, statuses, logTable, clogTable, fullTable, openRoomNo, openNo, logTime, withMeta, withoutMeta, openedWorld, leftBy, Opening, opening}
@@ -42,7 +43,7 @@ seen o =
     ∷ []
 
 opens : ℕ → Files → Opening
-unfolding logOf startOf starts logMagic parse decode bodyOf recordOf leOf bytesOf recordsIn insertBy insertAllBy largestBy lay header unfit clogMagic bitsOf withBits validClog openClog setSlot recordAll codes loadedStatus entryOf entriesFrom entriesIn settledCode settledByte settled metaMagic metaPage hasMeta field goodVersion formatNo anyOf badBuffers replay replayed statuses logTable clogTable fullTable openRoomNo openNo logTime withMeta withoutMeta openedWorld leftBy opening
+unfolding logOf startOf starts logMagic parse decode bodyOf recordOf leOf bytesOf recordsIn insertBy insertAllBy largestBy lay header unfit clogMagic bitsOf withBits validClog openClog setSlot recordAll codes loadedStatus entryOf entriesFrom entriesIn settledCode settledByte settled metaMagic metaPage hasMeta goodVersion formatNo anyOf badBuffers replay replayed statuses logTable clogTable fullTable openRoomNo openNo logTime withMeta withoutMeta openedWorld leftBy opening
 opens P f = opening P f (replicate P 0)
 
 -- begin 5, commit (5, 9), begin 7; no database and no clog

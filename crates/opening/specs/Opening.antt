@@ -43,7 +43,7 @@ use Rattle.world.specs.Steps.{withDb}
 use Rattle.world.specs.Refusals.{anyOf, orElse, badBuffers}
 use Rattle.world.specs.Run.{decided}
 use Rattle.form.specs.declared.Store.{Store}
-use Rattle.form.specs.Store.{laidStore, ending, Given, given}
+use Rattle.form.specs.Store.{noStore, laidStore, ending, Given, given}
 use Rattle.opening.specs.declared.Verdict.{Verdict}
 use Rattle.opening.specs.declared.Verdict.the-variants.{Accepted, Refused, Torn, Unknown}
 use Rattle.opening.specs.declared.Opened.{Opened}
@@ -194,20 +194,6 @@ opening P f frames =
     record { number = n; db = w .files .db .len; world = w }
 
 -- ---- the same for the code's store
-
--- what stands in the place of a store that there is not, and under the lists of one that there is
-unfoldable pub noStore : Store
-noStore =
-    record {
-      lens = record { log = 0; db = 0; clog = 0 };
-      pages = 0;
-      next = record { 0 = 0 };
-      time = record { 0 = 0 };
-      mark = record { 0 = 0 };
-      table = emptyTable 256;
-      frames = emptyFrames 64;
-      held = record { slot = Empty; touched = emptyTouched 64 };
-    }
 
 -- the number and the values of a verdict
 abbrev pub verdictTold : Verdict → Told

@@ -28,9 +28,9 @@ use Rattle.world.specs.World.{filesOf}
 use Rattle.world.specs.Refusals.{badBuffers}
 use Rattle.world.proofs.FormLaws.{none-of}
 use Rattle.form.specs.declared.Store.{Store}
-use Rattle.form.specs.Store.{laidStore}
+use Rattle.form.specs.Store.{laidStore, noStore}
 use Rattle.opening.specs.declared.Verdict.the-variants.{Accepted, Refused, Torn, Unknown}
-use Rattle.opening.specs.Opening.{records, replayed, logTable, fullTable, openNo, logTime, withMeta, withoutMeta, hasLaid, noStore, openedAs, opened}
+use Rattle.opening.specs.Opening.{records, replayed, logTable, fullTable, openNo, logTime, withMeta, withoutMeta, hasLaid, openedAs, opened}
 use Rattle.opening.proofs.Laws.{world-meta, world-plain, opened-refused, opened-torn, opened-unknown, opened-accepted}
 use Rattle.opening.proofs.Tables.{clog-within}
 use Rattle.opening.proofs.Formed.{no-means, replay-room, replay-fits, ids-fit}
@@ -38,7 +38,7 @@ use Rattle.scan.specs.declared.Surveyed.{Surveyed}
 use Rattle.scan.specs.Surveys.{surveyed}
 use Rattle.scan.proofs.Surveys.{clog-fits}
 use Rattle.replay.specs.Replay.{laidFrom}
-use Rattle.opens.specs.Opens.{Loadable, clogBy, metaCounters, plainCounters, storeAtRest, storeBy}
+use Rattle.opens.specs.Inside.{Loadable, clogBy, metaCounters, plainCounters, storeAtRest, storeBy}
 use Rattle.opens.proofs.Clogs.{answered, none-past}
 
 -- ---- the number

@@ -1,1 +1,1 @@
-pub mod Opens
+pub mod Inside

@@ -22,8 +22,9 @@ ghost use Rattle.fields.specs.Files.{fileOf, unfit};
 ghost use Rattle.table.specs.Entries.{listOf};
 ghost use Rattle.clog.specs.Slots.{openClog, recordAll, settled};
 ghost use Rattle.world.specs.Refusals.{anyOf};
-ghost use Rattle.opening.specs.Opening.{pastClog, hasLaid, noStore, openedAs, opened};
-ghost use Rattle.opens.specs.Opens.{Loadable, clogBy, timeBy, metaCounters, plainCounters, storeAtRest, storeBy};
+ghost use Rattle.form.specs.Store.{noStore};
+ghost use Rattle.opening.specs.Opening.{pastClog, hasLaid, openedAs, opened};
+ghost use Rattle.opens.specs.Inside.{Loadable, clogBy, timeBy, metaCounters, plainCounters, storeAtRest, storeBy};
 
 // The most entries of a table.
 const TABLE_LIMIT: usize = 256;

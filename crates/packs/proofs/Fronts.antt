@@ -8,47 +8,16 @@ use borrow.Author.Tests.{lt-ltb, le-ltb, ltb-false}
 use lib.Dec.{ltb}
 use lib.ListN.{length, take, drop, replicate, length-take}
 use lib.Seq.{take-take, drop-drop}
-use Rattle.fields.specs.Bytes.{leOf}
+use Rattle.fields.proofs.ByteLaws.{field-front}
+use Rattle.fields.proofs.Lists.{drop-take}
+use Rattle.form.specs.Store.{noStore}
+use Rattle.fields.specs.Bytes.{leOf, field}
 use Rattle.fields.proofs.Tests.{neither}
 use Rattle.table.specs.declared.Entry.{Entry}
 use Rattle.table.specs.Entries.{blank}
-use Rattle.packs.specs.Packs.{
-  readAll,
-  readHeld,
-  field,
-  statusIn,
-  slotIn,
-  entryIn,
-  tableIn,
-  framesIn,
-  heldIn,
-  storeIn,
-  unknownTag,
-  unreadable,
-  blankStore,
-  unpacked,
-}
+use Rattle.packs.specs.Packs.{readAll, readHeld, statusIn, slotIn, entryIn, tableIn, framesIn, heldIn, storeIn, unknownTag, unreadable, unpacked}
 
 -- ---- a field, and fields after a place
-
-take-none : {A : Type 0} (k : ℕ) → take {A = A} k [] ≡ []
-take-none zero = refl
-take-none (suc k) = refl
-
-pub drop-take : {A : Type 0} (at n : ℕ) (b : List A) → drop at (take n b) ≡ take (n - at) (drop at b)
-drop-take zero n b =
-    let e : n - 0 ≡ n = omega arith in
-    rw e
-drop-take (suc at) zero b =
-    let e : 0 - suc at ≡ 0 = omega arith in
-    rw e
-drop-take (suc at) (suc n) [] = sym (take-none (suc n - suc at))
-drop-take (suc at) (suc n) (x ∷ b) =
-    let e : suc n - suc at ≡ n - at = omega arith in
-    rw e (drop-take at n b)
-
-pub field-front : (w at n : ℕ) (b : List ℕ) → at + w ≤ n → field w at (take n b) ≡ field w at b
-field-front w at n b h = ap leOf (ap (take w) (drop-take at n b) ∙ take-take w (n - at) (drop at b) (omega arith))
 
 entry-front : (n : ℕ) (b : List ℕ) → 24 ≤ n → entryIn (take n b) ≡ entryIn b
 unfolding entryIn
@@ -139,7 +108,7 @@ unreadable-front b h =
 
 -- ---- what is unpacked
 
-pub unpacked-short : (b : List ℕ) → length b < 6748 → unpacked b ≡ record { number = 14; store = blankStore }
+pub unpacked-short : (b : List ℕ) → length b < 6748 → unpacked b ≡ record { number = 14; store = noStore }
 unfolding unpacked unreadable
 unpacked-short b h = rw (lt-ltb (length b) 6748 h)
 

@@ -9,7 +9,9 @@ use lib.ListN.{length, take, drop, getD, set, replicate, length-append, length-t
 use lib.Dec.{ltb}
 use borrow.Author.Tests.{lt-ltb, le-ltb}
 use lib.Seq.{sets, drop-cons, drop-drop, take-suc-set, take-all, getD-take, drop-set-lt}
-use Rattle.fields.specs.Bytes.{leOf, bytesOf}
+use Rattle.fields.proofs.Lists.{first-min, drop-replicate}
+use Rattle.form.specs.Store.{noStore}
+use Rattle.fields.specs.Bytes.{leOf, bytesOf, field}
 use Rattle.fields.proofs.ByteLaws.{length-bytesOf}
 use Rattle.fields.proofs.Stored.{sets-append, laid-next}
 use Rattle.table.specs.declared.Entry.{Entry}
@@ -23,7 +25,6 @@ use Rattle.packs.specs.Packs.{
   laidAll,
   readAll,
   readHeld,
-  field,
   unknownTag,
   three,
   entryBytes,
@@ -44,30 +45,8 @@ use Rattle.packs.specs.Packs.{
   heldIn,
   storeIn,
   unreadable,
-  blankStore,
   unpacked,
 }
-
--- ---- the first of a list
-
-pub first-min : {A : Type 0} (n count : ℕ) (xs : List A) → n ≡ min count (length xs) → take n xs ≡ take count xs
-first-min zero zero xs e = refl
-first-min zero (suc c) [] e = refl
-first-min zero (suc c) (x ∷ xs) e = absurd (omega (arith, e))
-first-min (suc n) zero xs e = absurd (omega (arith, e))
-first-min (suc n) (suc c) [] e = refl
-first-min (suc n) (suc c) (x ∷ xs) e = ap (λ (t : List _). x ∷ t) (first-min n c xs (omega (arith, e)))
-
-pub drop-replicate : {A : Type 0} (n m : ℕ) (d : A) → drop n (replicate m d) ≡ replicate (m - n) d
-drop-replicate zero m d =
-    let e : m - 0 ≡ m = omega arith in
-    rw e
-drop-replicate (suc n) zero d =
-    let e : 0 - suc n ≡ 0 = omega arith in
-    rw e
-drop-replicate (suc n) (suc m) d =
-    let e : suc m - suc n ≡ m - n = omega arith in
-    rw e (drop-replicate n m d)
 
 -- ---- how long the parts are
 
@@ -255,11 +234,11 @@ read-at w f d (suc n) (suc i) b h =
 
 -- the table of a store that is read has its size, whatever the bytes are
 pub entries-long : (b : List ℕ) → length (unpacked b .store .table .entries) ≡ 256
-unfolding unpacked storeIn tableIn blankStore emptyTable
+unfolding unpacked storeIn tableIn noStore emptyTable
 entries-long b = go (unreadable b)
   where
     go : (t : Bool) →
-        length (cond {A = Changed} t (record { number = 14; store = blankStore }) (record { number = 0; store = storeIn b }) .store .table .entries) ≡ 256
+        length (cond {A = Changed} t (record { number = 14; store = noStore }) (record { number = 0; store = storeIn b }) .store .table .entries) ≡ 256
     go true = length-replicate 256 blank
     go false = length-held-in blank 256 24 entryIn _ _
 

@@ -9,7 +9,9 @@ use borrow.Author.Tests.{le-ltb}
 use lib.Dec.{ltb}
 use lib.ListN.{length, take, drop, getD, set, replicate, length-append, length-take, length-replicate, take-append-drop}
 use lib.Seq.{sets, sets-eq, length-sets, drop-drop, take-at, drop-at, take-set-le, drop-set-add, getD-take, take-append-le, take-take}
-use Rattle.fields.specs.Bytes.{leOf, bytesOf}
+use Rattle.fields.proofs.Stored.{take-sets, drop-sets}
+use Rattle.fields.proofs.Lists.{}
+use Rattle.fields.specs.Bytes.{leOf, bytesOf, field}
 use Rattle.fields.proofs.ByteLaws.{length-bytesOf, leOf-bytesOf}
 use Rattle.fields.proofs.Tests.{Order, less, most, order}
 use Rattle.table.specs.declared.Status.{Status}
@@ -23,13 +25,12 @@ use Rattle.world.specs.declared.Slot.{Slot}
 use Rattle.world.specs.declared.Slot.the-variants.{Installed, Empty}
 use Rattle.form.specs.declared.Held.{Held}
 use Rattle.form.specs.declared.Store.{Store}
-use Rattle.form.specs.Store.{firstOf, memOf, worldOf}
+use Rattle.form.specs.Store.{firstOf, memOf, worldOf, noStore}
 use Rattle.form.proofs.Arrays.{Sized}
 use Rattle.packs.specs.Packs.{
   laidAll,
   readAll,
   readHeld,
-  field,
   tagOf,
   statusIn,
   slotTag,
@@ -52,10 +53,9 @@ use Rattle.packs.specs.Packs.{
   storeIn,
   unknownTag,
   unreadable,
-  blankStore,
   unpacked,
 }
-use Rattle.packs.proofs.Laws.{first-min, length-all, length-entry, length-three, length-slot}
+use Rattle.packs.proofs.Laws.{length-all, length-entry, length-three, length-slot}
 
 -- ---- fields have the sizes of their types (past the end `getD` gives a blank)
 
@@ -133,17 +133,6 @@ trimmed-seen s z log db clog frames =
 
 abbrev pub Stands : List ℕ → ℕ → List ℕ → Type 0
 Stands l at xs = take (length xs) (drop at l) ≡ xs
-
-pub take-sets : (zs l : List ℕ) (n j : ℕ) → n ≤ j → take n (sets l j zs) ≡ take n l
-take-sets [] l n j h = refl
-take-sets (z ∷ zs) l n j h = take-sets zs (set l j z) n (suc j) (omega arith) ∙ take-set-le n l j z h
-
-pub drop-sets : (zs l : List ℕ) (at j : ℕ) → drop at (sets l (at + j) zs) ≡ sets (drop at l) j zs
-drop-sets [] l at j = refl
-drop-sets (z ∷ zs) l at j =
-    let e : suc (at + j) ≡ at + suc j = omega arith in
-    ap (λ (k : ℕ). drop at (sets (set l (at + j) z) k zs)) e ∙ drop-sets zs (set l (at + j) z) at (suc j)
-    ∙ ap (λ (t : List ℕ). sets t (suc j) zs) (drop-set-add at l j z)
 
 pub stands-set : (at : ℕ) (xs l : List ℕ) → at + length xs ≤ length l → Stands (sets l at xs) at xs
 stands-set at xs l h =
@@ -473,7 +462,7 @@ module _ (s : Store) (fits : Fits s) (b : List ℕ) (long : 6748 ≤ length b) w
   pub unpacked-back : unpacked l₄ ≡ record { number = 0; store = trimmed s }
   unfolding unpacked
   unpacked-back =
-      ap (λ (t : Bool). cond t (record { number = 14; store = blankStore }) (record { number = 0; store = storeIn l₄ })) is-readable
+      ap (λ (t : Bool). cond t (record { number = 14; store = noStore }) (record { number = 0; store = storeIn l₄ })) is-readable
       ∙ ap (λ (t : Store). record { number = 0; store = t }) store-back
 
 -- a buffer that is long enough takes every store, and gives it back

@@ -5,6 +5,7 @@ use Prim.Native.Nat.{ℕ}
 use mathlib.Core.List.{List}
 use mathlib.Core.Bool.{cond}
 use lib.Dec.{eqb}
+use Rattle.world.specs.Run.{decided}
 use Rattle.form.specs.declared.Store.{Store}
 use Rattle.form.specs.Store.{Outcome, Given}
 use Rattle.packs.specs.Packs.{keptIn, unpacked}
@@ -39,9 +40,11 @@ pub record Handed (A : Type 0) : Type 0 where
 abbrev pub handed : {A : Type 0} → A → Ended → Handed A
 handed a e = record { value = a; ended = e }
 
--- A call that hands something out: `to` is how it goes to the host, and `none` what the host has where no store stands in b.
+-- A call that hands something out: `to` is how it goes to the host where the call is accepted, and `none` what the host has where it is refused or no store stands
+-- in b.
 unfoldable pub hostedGiven : {A B : Type 0} → (Store → List ℕ → List ℕ → List ℕ → List ℕ → Given A) → (A → B) → B → List ℕ → List ℕ → List ℕ → List ℕ → List ℕ
     → Handed B
 hostedGiven f to none b log db clog frames =
     let g = f (unpacked b .store) log db clog frames in
-    cond (eqb (unpacked b .number) 0) (handed (to (g .value)) (repacked b (g .outcome))) (handed none (ended (unpacked b .number) b log db clog frames))
+    cond (eqb (unpacked b .number) 0) (handed (decided (g .outcome .number) (to (g .value)) none) (repacked b (g .outcome)))
+    (handed none (ended (unpacked b .number) b log db clog frames))

@@ -19,7 +19,7 @@ use mathlib.Core.Bool.{Bool, true, false, cond, _||_, not}
 use lib.ListN.{length, take, drop, replicate}
 use lib.Seq.{sets}
 use lib.Dec.{ltb, eqb}
-use Rattle.fields.specs.Bytes.{leOf, bytesOf}
+use Rattle.fields.specs.Bytes.{field, bytesOf}
 use Rattle.table.specs.declared.Status.{Status}
 use Rattle.table.specs.declared.Status.the-variants.{Active, Committed, Aborted}
 use Rattle.table.specs.declared.Entry.{Entry}
@@ -34,6 +34,7 @@ use Rattle.world.specs.declared.Slot.the-variants.{Installed, Empty}
 use Rattle.form.specs.declared.Held.{Held}
 use Rattle.form.specs.declared.Store.{Store}
 use Rattle.form.specs.declared.Changed.{Changed}
+use Rattle.form.specs.Store.{noStore}
 use Rattle.packs.specs.declared.TransactionRead.{TransactionRead}
 
 -- ---- things of one size, one after the other
@@ -50,10 +51,6 @@ readAll w f (suc n) b = f b ∷ readAll w f n (drop w b)
 -- an array of m places with the n of them that are held read back, and blanks d after them
 unfoldable pub readHeld : {A : Type 0} → A → ℕ → ℕ → (List ℕ → A) → ℕ → List ℕ → List A
 readHeld d m w f n b = readAll w f (min n m) b ++ replicate (m - min n m) d
-
--- the number in the w bytes from a place on
-abbrev pub field : ℕ → ℕ → List ℕ → ℕ
-field w at b = leOf (take w (drop at b))
 
 -- ---- tags
 
@@ -175,22 +172,8 @@ unknownTag (suc n) b = ltb 2 (field 8 8 b) || unknownTag n (drop 24 b)
 unfoldable pub unreadable : List ℕ → Bool
 unreadable b = ltb (length b) storeBytes || (ltb 1 (field 8 6464 b) || unknownTag (min (field 8 48 b) 256) (drop 56 b))
 
--- what stands beside a refusal
-unfoldable pub blankStore : Store
-blankStore =
-    record {
-      lens = record { log = 0; db = 0; clog = 0 };
-      pages = 0;
-      next = record { 0 = 0 };
-      time = record { 0 = 0 };
-      mark = record { 0 = 0 };
-      table = emptyTable 256;
-      frames = emptyFrames 64;
-      held = record { slot = Empty; touched = emptyTouched 64 };
-    }
-
 unfoldable pub unpacked : List ℕ → Changed
-unpacked b = cond (unreadable b) (record { number = 14; store = blankStore }) (record { number = 0; store = storeIn b })
+unpacked b = cond (unreadable b) (record { number = 14; store = noStore }) (record { number = 0; store = storeIn b })
 
 -- ---- a transaction by itself, 280 bytes as from byte 6464 of a store on; one that is installed has the tag 1
 

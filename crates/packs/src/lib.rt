@@ -19,9 +19,10 @@ ghost use Prim.Native.Nat.{_-_, _≤_};
 ghost use mathlib.Core.List.{_++_};
 ghost use lib.ListN.{take, drop, replicate};
 ghost use lib.Seq.{sets};
-ghost use Rattle.fields.specs.Bytes.{bytesOf};
+ghost use Rattle.fields.specs.Bytes.{field, bytesOf};
 ghost use Rattle.table.specs.Entries.{blank, timeOf, listOf};
-ghost use Rattle.packs.specs.Packs.{laidAll, readAll, field, tagOf, statusIn, slotTag, slotId, slotIn, three, entryBytes, heldBytes, slotBytes, transactionBytes, packed, withResident, packing, packedInto, keptIn, entryIn, tableIn, framesIn, heldIn, storeIn, unknownTag, unreadable, blankStore, unpacked, noTransaction, transactionIn, blankTransaction, transactionRead};
+ghost use Rattle.form.specs.Store.{noStore};
+ghost use Rattle.packs.specs.Packs.{laidAll, readAll, tagOf, statusIn, slotTag, slotId, slotIn, three, entryBytes, heldBytes, slotBytes, transactionBytes, packed, withResident, packing, packedInto, keptIn, entryIn, tableIn, framesIn, heldIn, storeIn, unknownTag, unreadable, unpacked, noTransaction, transactionIn, blankTransaction, transactionRead};
 
 // How many bytes a packed store has.
 pub const STORE_BYTES: usize = 6748;
@@ -397,7 +398,7 @@ pub fn is_unreadable(b: &[u8]) -> bool
 
 // What stands beside a refusal.
 fn blank() -> Store
-    ensures { λ r. ⌜ r ≡ blankStore ⌝ }
+    ensures { λ r. ⌜ r ≡ noStore ⌝ }
 {
     let lens = Lens {
         log: 0,

@@ -1,5 +1,5 @@
 -- What stands in a store's bytes after resident pages and page count were stored there: the store that stood there before, with those two, and blanks past the
--- count of resident pages. That a page's call by value changes nothing else of a store is not said here. Assumes nothing.
+-- count of resident pages. That a page's call by value changes nothing else of a store is said in Whole. Assumes nothing.
 use mathlib.Core.Path.{_≡_, refl, sym, ap, _∙_}
 use mathlib.Core.List.{List, [], _∷_}
 use mathlib.Core.Bool.{Bool, true, false, cond, _||_}
@@ -8,30 +8,15 @@ use native.Mathlib.Omega.{arith}
 use lib.Dec.{ltb}
 use lib.ListN.{length, take, drop, set}
 use lib.Seq.{sets, length-sets, drop-set-lt, drop-drop}
-use Rattle.fields.specs.Bytes.{bytesOf}
-use Rattle.fields.proofs.ByteLaws.{length-bytesOf}
+use Rattle.fields.proofs.Stored.{take-sets, drop-sets, past-sets}
+use Rattle.fields.proofs.Lists.{drop-take}
+use Rattle.fields.specs.Bytes.{bytesOf, field}
+use Rattle.fields.proofs.ByteLaws.{length-bytesOf, field-front}
 use Rattle.frames.specs.declared.Frames.{Frames}
 use Rattle.form.specs.declared.Store.{Store}
-use Rattle.packs.specs.Packs.{
-  field,
-  heldBytes,
-  withResident,
-  tableIn,
-  framesIn,
-  heldIn,
-  storeIn,
-  unknownTag,
-  unreadable,
-  blankStore,
-  unpacked,
-}
-use Rattle.packs.proofs.Fronts.{field-front, table-take, held-take, tags-front, drop-take, readable-long}
-use Rattle.packs.proofs.RoundTrip.{PagesFit, kept, Stands, take-sets, drop-sets, stands-set, stands-on, stands-then, field-back, pages-back, length-held}
-
--- what stands after the bytes that were stored
-drop-past : (zs l : List ℕ) (at j : ℕ) → j + length zs ≤ at → drop at (sets l j zs) ≡ drop at l
-drop-past [] l at j h = refl
-drop-past (z ∷ zs) l at j h = drop-past zs (set l j z) at (suc j) (omega arith) ∙ drop-set-lt at l j z (omega arith)
+use Rattle.packs.specs.Packs.{heldBytes, withResident, tableIn, framesIn, heldIn, storeIn, unknownTag, unreadable, unpacked}
+use Rattle.packs.proofs.Fronts.{table-take, held-take, tags-front, readable-long}
+use Rattle.packs.proofs.RoundTrip.{PagesFit, kept, Stands, stands-set, stands-on, stands-then, field-back, pages-back, length-held}
 
 module _ (f : Frames) (k : ℕ) (b : List ℕ) (long : 6748 ≤ length b) (sized : length (f .pages) ≡ 64) (few : f .count < 2 ^ 64) (fit : PagesFit (f .pages))
     (small : k < 2 ^ 32) where
@@ -67,7 +52,7 @@ module _ (f : Frames) (k : ℕ) (b : List ℕ) (long : 6748 ≤ length b) (sized
   late : take 280 (drop 6464 l) ≡ take 280 (drop 6464 b)
   late =
       ap (take 280) (drop-sets (bytesOf 4 k) l₁ 6464 280) ∙ take-sets (bytesOf 4 k) (drop 6464 l₁) 280 280 (omega arith)
-      ∙ ap (take 280) (drop-past resident b 6464 6200 (omega (arith, resident-most)))
+      ∙ ap (take 280) (past-sets resident b 6464 6200 (omega (arith, resident-most)))
 
   held-kept : heldIn (drop 6464 l) ≡ heldIn (drop 6464 b)
   held-kept = sym (held-take 280 (drop 6464 l) (omega arith)) ∙ ap heldIn late ∙ held-take 280 (drop 6464 b) (omega arith)

@@ -8,7 +8,8 @@ use borrow.Author.Tests.{lt-ltb, le-ltb, le-leb, lt-leb}
 use lib.Dec.{ltb, leb}
 use lib.ListN.{length, take, drop, getD, replicate}
 use lib.Seq.{sets, take-at, take-all, drop-drop}
-use Rattle.fields.specs.Bytes.{part}
+use Rattle.fields.proofs.ByteLaws.{field-front}
+use Rattle.fields.specs.Bytes.{part, field}
 use Rattle.fields.specs.Files.{fileOf}
 use Rattle.fields.proofs.Tests.{Order, less, most, order, passed}
 use Rattle.table.specs.declared.Entry.{Entry}
@@ -24,17 +25,20 @@ use Rattle.world.specs.Calls.{Write}
 use Rattle.world.specs.Refusals.{frontNo}
 use Rattle.world.specs.Run.{decided}
 use Rattle.form.specs.declared.Store.{Store}
-use Rattle.form.specs.Store.{worldOf, outOfForm, Outcome, outcome, Given, given, called}
+use Rattle.form.specs.Store.{worldOf, Outcome, outcome, Given, given, called}
+use Rattle.form.specs.Inside.{outOfForm}
 use Rattle.form.proofs.Front.{form-is}
 use Rattle.quiet.specs.declared.Seat.{Seat}
-use Rattle.quiet.specs.Handed.{seatOf, pageRead}
+use Rattle.quiet.specs.Handed.{pageRead}
+use Rattle.quiet.specs.Inside.{seatOf}
 use Rattle.quiet.proofs.Pages.{seat-front, seat-10, seat-8, seat-at, seat-nowhere, read-refused, read-out, write-refused, write-out}
-use Rattle.packs.specs.Packs.{readAll, readHeld, field, entryIn, tableIn, framesIn, heldIn, storeIn, unreadable, withResident}
+use Rattle.packs.specs.Packs.{readAll, readHeld, entryIn, tableIn, framesIn, heldIn, storeIn, unreadable, withResident}
 use Rattle.packs.specs.Hosted.{Ended, ended, Handed, handed}
 use Rattle.packs.proofs.Laws.{length-read, sized-in, read-at}
-use Rattle.packs.proofs.Fronts.{field-front, frames-front, store-front, unreadable-front, readable-long}
+use Rattle.packs.proofs.Fronts.{frames-front, store-front, unreadable-front, readable-long}
 use Rattle.paging.specs.declared.PageSeat.{PageSeat}
-use Rattle.paging.specs.Paging.{paged, hostedWrite, hostedRead, seatTold, seatIn, seatOver}
+use Rattle.paging.specs.Paging.{paged, hostedWrite, hostedRead}
+use Rattle.paging.specs.Inside.{seatTold, seatIn, seatOver}
 
 -- ---- the table's ids, where they stand
 

@@ -1,1 +1,2 @@
 pub mod Paging
+pub mod Inside

@@ -2,19 +2,14 @@
 -- count alone, and a refusal changes no byte of any buffer. P is the page size. Assumes nothing.
 use Prim.Native.Nat.{ℕ}
 use mathlib.Core.List.{List}
-use mathlib.Core.Bool.{cond, true}
+use mathlib.Core.Bool.{cond}
 use lib.Seq.{sets}
-use lib.ListN.{length, take, drop}
-use lib.Dec.{ltb}
-use Rattle.frames.specs.Pages.{emptyFrames}
 use Rattle.world.specs.Calls.{Write}
 use Rattle.world.specs.Run.{decided}
 use Rattle.form.specs.Store.{Outcome, called}
-use Rattle.quiet.specs.declared.Seat.{Seat}
-use Rattle.quiet.specs.Handed.{pageRead, seatOf}
+use Rattle.quiet.specs.Handed.{pageRead}
 use Rattle.packs.specs.Hosted.{Ended, ended, Handed, handed}
-use Rattle.packs.specs.Packs.{storeBytes, field, framesIn, storeIn, unreadable, withResident}
-use Rattle.paging.specs.declared.PageSeat.{PageSeat}
+use Rattle.packs.specs.Packs.{storeIn, unreadable, withResident}
 
 -- what a call leaves, where it changes no more of the store than resident pages and page count
 unfoldable pub paged : List ℕ → Outcome → Ended
@@ -29,19 +24,3 @@ unfoldable pub hostedRead : ℕ → ℕ → List ℕ → List ℕ → List ℕ �
 hostedRead P page old b log db clog frames =
     let g = pageRead P page (storeIn b) log db clog frames in
     cond (unreadable b) (handed old (ended 14 b log db clog frames)) (handed (decided (g .outcome .number) (sets old 0 (g .value)) old) (paged b (g .outcome)))
-
--- ---- what the private functions give
-
-abbrev pub seatTold : Seat → PageSeat
-seatTold q = record { number = q .number; there = q .there; slot = q .slot; frames = q .store .frames; pages = q .store .pages }
-
-unfoldable pub seatIn : ℕ → ℕ → List ℕ → List ℕ → List ℕ → List ℕ → List ℕ → PageSeat
-seatIn P page b log db clog frames =
-    cond (unreadable b) (record { number = 14; there = true; slot = 0; frames = framesIn (drop 6200 b); pages = field 4 6744 b })
-    (seatTold (seatOf P page (storeIn b) log db clog frames))
-
--- the same of a buffer of any length; one that is too short has no seat
-unfoldable pub seatOver : ℕ → ℕ → List ℕ → List ℕ → List ℕ → List ℕ → List ℕ → PageSeat
-seatOver P page b log db clog frames =
-    cond (ltb (length b) storeBytes) (record { number = 14; there = true; slot = 0; frames = emptyFrames 64; pages = 0 })
-    (seatIn P page (take storeBytes b) log db clog frames)

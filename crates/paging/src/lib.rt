@@ -11,10 +11,12 @@ ghost use Prim.Native.Nat.{_≤_};
 ghost use lib.ListN.{drop};
 ghost use Rattle.table.specs.Entries.{wellFormed, ascending};
 ghost use Rattle.world.specs.Refusals.{frontNo};
-ghost use Rattle.form.specs.Store.{worldOf, outOfForm};
+ghost use Rattle.form.specs.Store.{worldOf};
+ghost use Rattle.form.specs.Inside.{outOfForm};
 ghost use Rattle.packs.specs.Hosted.{ended, handed};
 ghost use Rattle.packs.specs.Packs.{readAll, entryIn, tableIn, framesIn, storeIn, unreadable};
-ghost use Rattle.paging.specs.Paging.{seatIn, seatOver, hostedRead, hostedWrite};
+ghost use Rattle.paging.specs.Paging.{hostedRead, hostedWrite};
+ghost use Rattle.paging.specs.Inside.{seatIn, seatOver};
 
 const ENTRIES: usize = 256;
 

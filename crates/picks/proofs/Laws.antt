@@ -16,7 +16,8 @@ use Rattle.frames.specs.declared.Place.the-variants.{At, Nowhere}
 use Rattle.world.specs.Calls.{keep, isCatalog}
 use Rattle.picks.specs.declared.Which.{Which}
 use Rattle.picks.specs.declared.Picked.{Picked}
-use Rattle.picks.specs.Picks.{wants, chosen, Seat, seat, seatsOf, pickedOf, seatIf, grown}
+use Rattle.picks.specs.Picks.{wants, chosen, Seat, seat, seatsOf, pickedOf}
+use Rattle.picks.specs.Inside.{seatIf, grown}
 
 -- ---- catalog pages
 

@@ -1,9 +1,9 @@
 -- The touched pages that a call deals with: those resident, of these all, the data pages or the catalog pages, in the order of the touched pages, each with
 -- the slot of its frame. Assumes nothing.
 use Prim.Native.Nat.{ℕ, _+_, _-_}
-use mathlib.Core.List.{List, [], _∷_, _++_, map}
-use mathlib.Core.Bool.{Bool, true, false, not}
-use lib.ListN.{length, replicate, set}
+use mathlib.Core.List.{List, _++_, map}
+use mathlib.Core.Bool.{Bool, true, not}
+use lib.ListN.{length, replicate}
 use Rattle.frames.specs.Pages.{isIn, slotOf}
 use Rattle.world.specs.Calls.{keep, isCatalog}
 use Rattle.picks.specs.declared.Which.{Which}
@@ -39,14 +39,3 @@ pickedOf N l =
       slots = map (λ s. s .slot) l ++ replicate (N - length l) 0;
       n = length l;
     }
-
--- one page, at the slot that a look-up found, if it is wanted
-abbrev pub seatIf : Bool → ℕ → List ℕ → List Seat
-seatIf false p vs = []
-seatIf true p [] = []
-seatIf true p (k ∷ vs) = seat p k ∷ []
-
--- with the first of these seats, if there is one, at the count
-abbrev pub grown : Picked → List Seat → Picked
-grown p [] = p
-grown p (s ∷ ss) = record { pages = set (p .pages) (p .n) (s .page); slots = set (p .slots) (p .n) (s .slot); n = p .n + 1 }

@@ -8,7 +8,8 @@ ghost use mathlib.Core.Path.{_≡_};
 ghost use mathlib.Core.List.{[]};
 ghost use Prim.Native.Nat.{_<_, min};
 ghost use Rattle.frames.specs.Pages.{isIn, anyBad, residentOf, touchedOf, placeTold};
-ghost use Rattle.picks.specs.Picks.{wants, pickedOf, seatIf, grown, seatsOf, chosen};
+ghost use Rattle.picks.specs.Picks.{wants, pickedOf, seatsOf, chosen};
+ghost use Rattle.picks.specs.Inside.{seatIf, grown};
 
 // The most touched pages.
 const LIMIT: usize = 64;

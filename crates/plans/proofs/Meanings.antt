@@ -6,6 +6,7 @@ use Prim.Native.Nat.{ℕ, zero, suc, _-_, _≤_, _<_}
 use native.Mathlib.Nat.{le-of-suc-le-suc, not-suc-le-zero}
 use native.Mathlib.Omega.{arith}
 use lib.ListN.{length, getD, replicate, length-map}
+use Rattle.fields.specs.Answers.{noId, noTime}
 use Rattle.fields.specs.declared.TransactionId.{TransactionId}
 use Rattle.fields.specs.declared.CommitTime.{CommitTime}
 use Rattle.wal.specs.Records.{image}
@@ -23,7 +24,7 @@ use Rattle.stores.specs.declared.Kind.the-variants.{Begin, Flush, Commit, Rollb
 use Rattle.stores.specs.declared.Plan.{Plan}
 use Rattle.stores.specs.Plans.{meant}
 use Rattle.stores.proofs.MeantLaws.{Lists, begin-meant, flush-meant, commit-meant, rollback-meant, advance-meant}
-use Rattle.plans.specs.Planned.{planOf, noId, noTime, noCounters, timed, marked}
+use Rattle.plans.specs.Planned.{planOf, noCounters, timed, marked}
 
 -- ---- the pages of a plan are those that it was given, each with its slot
 

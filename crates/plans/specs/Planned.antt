@@ -3,6 +3,7 @@ use Prim.Native.Nat.{ℕ}
 use mathlib.Core.List.{List}
 use Rattle.fields.specs.declared.TransactionId.{TransactionId}
 use Rattle.fields.specs.declared.CommitTime.{CommitTime}
+use Rattle.fields.specs.Answers.{noId, noTime}
 use Rattle.table.specs.Entries.{next64}
 use Rattle.meta.specs.declared.Counters.{Counters}
 use Rattle.picks.specs.Picks.{Seat, pickedOf}
@@ -13,12 +14,6 @@ unfoldable pub planOf : Kind → TransactionId → CommitTime → List Seat → 
 planOf kind id time seats meta =
     let p = pickedOf 64 seats in
     record { kind = kind; id = id; time = time; pages = p .pages; slots = p .slots; n = p .n; meta = meta }
-
-abbrev pub noId : TransactionId
-noId = record { 0 = 0 }
-
-abbrev pub noTime : CommitTime
-noTime = record { 0 = 0 }
 
 abbrev pub noCounters : Counters
 noCounters = record { next = noId; time = noTime; mark = noId }

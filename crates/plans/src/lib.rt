@@ -12,7 +12,8 @@ ghost use mathlib.Core.Path.{_≡_};
 ghost use mathlib.Core.List.{[], _∷_};
 ghost use Rattle.frames.specs.Pages.{residentOf, touchedOf};
 ghost use Rattle.picks.specs.Picks.{chosen, seatsOf, seat};
-ghost use Rattle.plans.specs.Planned.{planOf, timed, marked, noCounters, noId, noTime};
+ghost use Rattle.fields.specs.Answers.{noId, noTime};
+ghost use Rattle.plans.specs.Planned.{planOf, timed, marked, noCounters};
 
 fn no_id() -> TransactionId
     ensures { λ r. ⌜ r ≡ noId ⌝ }

@@ -32,7 +32,8 @@ use Rattle.form.proofs.Arrays.{Sized, length-first}
 use Rattle.form.proofs.Front.{InForm, front-means, entries-length, touched-length, resident-length, resident-are, table-same, frames-same, touched-same}
 use Rattle.form.proofs.Called.{accepted, refused, quiet-is, handed-accepted, handed-refused}
 use Rattle.quiet.specs.declared.Seat.{Seat}
-use Rattle.quiet.specs.Handed.{pageRead, seatOf}
+use Rattle.quiet.specs.Handed.{pageRead}
+use Rattle.quiet.specs.Inside.{seatOf}
 
 -- ---- a page's seat: it has one, it takes the next frame, or there is none
 

@@ -1,4 +1,4 @@
--- Laws of install, uninstall and the allocations, one for each way out of the code. Assumes nothing.
+-- Laws of install, uninstall and the allocations, one for each way out of the code. Assumes noHeld.
 use Prim.Native.Nat.{ℕ, _+_, _≤_, _<_}
 use native.Mathlib.Omega.{arith}
 use mathlib.Core.Path.{_≡_, refl}
@@ -16,11 +16,12 @@ use Rattle.world.specs.Calls.{Uninstall, AllocId, AllocPage, steps, keeps}
 use Rattle.world.specs.Refusals.{badTouched, isInstalled, argumentNo, callNo, frontNo}
 use Rattle.world.specs.Run.{done}
 use Rattle.form.specs.declared.Store.{Store}
-use Rattle.form.specs.Store.{touchedOf, memOf, worldOf, laidStore, outcome, called, calledOn, withArray, installed, given}
+use Rattle.form.specs.Store.{noHeld, touchedOf, memOf, worldOf, laidStore, outcome, called, calledOn, withArray, installed, given}
 use Rattle.form.proofs.Arrays.{Sized, length-first}
 use Rattle.form.proofs.Front.{front-means, touched-few, entries-length, touched-length, resident-length, table-same, frames-same, touched-same}
 use Rattle.form.proofs.Called.{refused-front, refused-call, accepted-call, quiet, handed-accepted, handed-refused}
-use Rattle.quiet.specs.Handed.{nothing, noId, uninstalled, idAllocated, pageAllocated}
+use Rattle.fields.specs.Answers.{noId}
+use Rattle.quiet.specs.Handed.{uninstalled, idAllocated, pageAllocated}
 
 -- ---- install
 
@@ -77,7 +78,7 @@ module _ (P : ℕ) (s : Store) (log db clog frames : List ℕ) where
   unfolding uninstalled
   uninstall-refused n t f e h =
       rw f
-      (handed-refused (s .held) nothing s log db clog frames (called P Uninstall s log db clog frames) n h
+      (handed-refused (s .held) noHeld s log db clog frames (called P Uninstall s log db clog frames) n h
       (refused-front P Uninstall s s log db clog frames n e h))
 
   pub id-refused : (n : ℕ) → n ≡ frontNo P (worldOf s log db clog frames) → (n ≡ 0 → ⊥) →
@@ -168,7 +169,7 @@ module _ (P : ℕ) (s : Store) (log db clog frames : List ℕ) where
           })
           log db clog frames ≡ uninstalled P s log db clog frames
       unfolding uninstalled
-      uninstall-out = handed-accepted (s .held) nothing _ log db clog frames (called P Uninstall s log db clog frames) uninstall-called
+      uninstall-out = handed-accepted (s .held) noHeld _ log db clog frames (called P Uninstall s log db clog frames) uninstall-called
 
       -- the store of an allocation: next id n, page count k
       abbrev counted : ℕ → ℕ → Store

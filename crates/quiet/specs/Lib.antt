@@ -1,2 +1,3 @@
 pub mod Handed
 pub mod Entries
+pub mod Inside

@@ -19,7 +19,8 @@ ghost use Rattle.fields.specs.Files.{fileOf};
 ghost use Rattle.frames.specs.Copies.{pageOf};
 ghost use Rattle.world.specs.Calls.{Write};
 ghost use Rattle.form.specs.Store.{outcome, called, calledOn, withArray, installed, given};
-ghost use Rattle.quiet.specs.Handed.{uninstalled, idAllocated, pageAllocated, pageRead, seatOf};
+ghost use Rattle.quiet.specs.Handed.{uninstalled, idAllocated, pageAllocated, pageRead};
+ghost use Rattle.quiet.specs.Inside.{seatOf};
 ghost use Rattle.quiet.specs.Entries.{entriesCounted, entryTold, entryRead};
 
 // What a refused call answers: the old store.

@@ -9,6 +9,7 @@ use lib.ListN.{length, take, drop, getD}
 use lib.Dec.{ltb}
 use lib.Seq.{sets, take-all}
 use borrow.Author.Tests.{le-ltb}
+use Rattle.fields.specs.Answers.{noId, noTime}
 use Rattle.fields.specs.Files.{File, fileOf, room, unfit}
 use Rattle.fields.proofs.Tests.{passed}
 use Rattle.fields.proofs.FileLaws.{fit-ok}
@@ -28,7 +29,7 @@ use Rattle.stores.proofs.PlanLaws.{most-steps}
 use Rattle.stores.proofs.RoomLaws.{length-meant}
 use Rattle.picks.specs.declared.Picked.{Picked}
 use Rattle.picks.specs.Picks.{pickedOf}
-use Rattle.plans.specs.Planned.{planOf, noId, noTime, noCounters}
+use Rattle.plans.specs.Planned.{planOf, noCounters}
 use Rattle.form.specs.declared.Store.{Store}
 use Rattle.form.specs.Store.{memOf, worldOf, laidStore, outcome, called, calledOn}
 use Rattle.form.proofs.Arrays.{Sized}
@@ -36,7 +37,8 @@ use Rattle.form.proofs.Front.{front-means, entries-length, touched-length, resi
 use Rattle.form.proofs.Called.{quiet-is}
 use Rattle.ready.specs.declared.Ready.{Ready}
 use Rattle.ready.specs.declared.Counted.{Counted}
-use Rattle.ready.specs.Ready.{Prepared, prepared, remembered, readyFor, readied, metaOf, refillTo, refill, framed, idle, plain, withMeta, withLens, filesTo, filesAt, carriedOut, cutAt, calledTo, countedFor, countedOf}
+use Rattle.ready.specs.Ready.{Prepared, prepared, readied, metaOf, refillTo, refill, framed, idle, plain, withMeta, withLens, filesTo, filesAt, carriedOut, cutAt, calledTo, countedFor, countedOf}
+use Rattle.ready.specs.Inside.{remembered, readyFor}
 
 -- ---- numbers
 

@@ -22,7 +22,8 @@ use Rattle.form.specs.Store.{worldOf, laidStore}
 use Rattle.form.proofs.Front.{front-means}
 use Rattle.ready.specs.declared.Ready.{Ready}
 use Rattle.ready.specs.declared.Told.{Told}
-use Rattle.ready.specs.Ready.{Prepared, prepared, remembered, readyFor, readied, ToldCall, toldBy, toldFor, toldOf}
+use Rattle.ready.specs.Ready.{Prepared, prepared, readied, ToldCall, toldBy, toldFor, toldOf}
+use Rattle.ready.specs.Inside.{remembered, readyFor}
 
 abbrev toldCall : ℕ → List ℕ → ToldCall
 toldCall n vs = record { number = n; values = vs }

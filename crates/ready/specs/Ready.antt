@@ -4,16 +4,17 @@ use Prim.Native.Nat.{ℕ, zero, suc, min}
 use mathlib.Core.List.{List, []}
 use mathlib.Core.Bool.{cond, true, false}
 use lib.ListN.{length, getD}
+use Rattle.fields.specs.Answers.{noId, noTime}
 use Rattle.fields.specs.Files.{File}
 use Rattle.meta.specs.declared.Counters.{Counters}
 use Rattle.meta.specs.Page.{metaPage}
 use Rattle.frames.specs.Copies.{pageOf, withFrame}
 use Rattle.world.specs.declared.Lens.{Lens}
-use Rattle.world.specs.World.{Files, World, filesOf, lensOf}
+use Rattle.world.specs.World.{Files, filesOf, lensOf}
 use Rattle.world.specs.Steps.{Step}
-use Rattle.world.specs.Calls.{Call, steps, keeps}
+use Rattle.world.specs.Calls.{Call, steps}
 use Rattle.world.specs.Refusals.{refuses}
-use Rattle.world.specs.Run.{decided, callTo, count, tellings}
+use Rattle.world.specs.Run.{callTo, count, tellings}
 use Rattle.picks.specs.declared.Picked.{Picked}
 use Rattle.picks.specs.Picks.{pickedOf}
 use Rattle.stores.specs.declared.Plan.{Plan}
@@ -21,9 +22,9 @@ use Rattle.stores.specs.declared.Kind.the-variants.{Nothing}
 use Rattle.stores.specs.Plans.{stepsOf, meant}
 use Rattle.stores.specs.Room.{Carried, carried}
 use Rattle.stores.specs.Told.{tellingTold, toldAt, toldIn}
-use Rattle.plans.specs.Planned.{planOf, noId, noTime, noCounters}
+use Rattle.plans.specs.Planned.{planOf, noCounters}
 use Rattle.form.specs.declared.Store.{Store}
-use Rattle.form.specs.Store.{worldOf, laidStore, Outcome, outcome}
+use Rattle.form.specs.Store.{worldOf, Outcome, outcome}
 use Rattle.ready.specs.declared.Ready.{Ready}
 use Rattle.ready.specs.declared.Counted.{Counted}
 use Rattle.ready.specs.declared.Told.{Told}
@@ -39,17 +40,6 @@ pub record Prepared : Type 0 where
 
 abbrev pub prepared : ℕ → List Step → Store → List ℕ → Prepared
 prepared n ss s frames = record { number = n; steps = ss; store = s; frames = frames }
-
--- the store s with what a call remembers of the world w
-abbrev pub remembered : ℕ → Call → Store → World → Store
-remembered P c s w = laidStore s (record { files = w .files; frames = keeps P c w .frames; mem = keeps P c w .mem })
-
--- a call on a store and its buffers
-unfoldable pub readyFor : ℕ → Call → Store → List ℕ → List ℕ → List ℕ → List ℕ → Prepared
-readyFor P c s log db clog frames =
-    let w = worldOf s log db clog frames in
-    let n = refuses P c w in
-    prepared n (decided n (steps P c w) []) (decided n (remembered P c s w) s) (decided n (keeps P c w .frames) frames)
 
 -- ---- as a value of the code, on these buffers
 

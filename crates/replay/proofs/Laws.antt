@@ -10,7 +10,8 @@ use lib.ListN.{length, take, drop, replicate}
 use lib.Seq.{sets}
 use Rattle.fields.specs.Files.{File, fileOf, content, lay, unfit}
 use Rattle.wal.specs.Records.{Record, image, begin, commit, abort, checkpoint, decode, ended, Placed, parse, recordsIn, logOf}
-use Rattle.wal.specs.Reading.{readTold, readIn, startIn, outside, pageIn, pageOf, imageIn, shown}
+use Rattle.wal.specs.Reading.{readTold, readIn, startIn, outside, pageIn, pageOf, imageIn}
+use Rattle.wal.specs.Inside.{shown}
 use Rattle.wal.specs.declared.Read.{Read}
 use Rattle.wal.proofs.RecordLaws.{Fronted, at-end, bad, short, whole, front}
 use Rattle.wal.proofs.ParseLaws.{decode-front, parse-none, parse-bad, parse-short, parse-front}
@@ -19,7 +20,8 @@ use Rattle.opening.specs.Opening.{laidBy, replay}
 use Rattle.scan.specs.Scans.{nextOf}
 use Rattle.scan.proofs.Sizes.{Sized, all-sized}
 use Rattle.scan.proofs.Turns.{rest-none}
-use Rattle.replay.specs.Replay.{laidFrom, recordPage, readPage, laidPage}
+use Rattle.replay.specs.Replay.{laidFrom}
+use Rattle.replay.specs.Inside.{recordPage, readPage, laidPage}
 
 -- ---- the page bytes at a place
 
@@ -101,3 +103,9 @@ pub laid-done : (P : ℕ) (buf : List ℕ) (len at : ℕ) (db out : File) → at
     replay P (recordsIn (parse P at (drop at (take len buf)) .found)) db ≡ out → db ≡ out
 unfolding replay recordsIn
 laid-done P buf len at db out e f = rw (e, rest-none P buf len) at f
+
+-- ---- one answer
+
+-- the bytes and the length stand in the file: a contract that gives the file lets one buffer and one length through
+pub file-parts : (xs ys : List ℕ) (m n : ℕ) → fileOf xs m ≡ fileOf ys n → (xs ≡ ys) × (m ≡ n)
+file-parts xs ys m n e = (ap (λ (f : File). f .bytes) e, ap (λ (f : File). f .len) e)

@@ -4,7 +4,8 @@ use wal::Read;
 use wal::WalRecord;
 ghost use mathlib.Core.Path.{_≡_};
 ghost use Rattle.fields.specs.Files.{fileOf};
-ghost use Rattle.replay.specs.Replay.{laidFrom, recordPage, readPage, laidPage};
+ghost use Rattle.replay.specs.Replay.{laidFrom};
+ghost use Rattle.replay.specs.Inside.{recordPage, readPage, laidPage};
 
 fn record_page(r: WalRecord) -> u32
     ensures { λ p. ⌜ p ≡ recordPage r ⌝ }

@@ -11,7 +11,7 @@ use Rattle.table.specs.declared.Inserted.{Inserted}
 use Rattle.table.specs.Entries.{emptyTable, laid, insertEntry, insertAll, bounded, inserted}
 use Rattle.table.proofs.Facts.{list-laid, laid-laid, set-grows, bounded-yes, bounded-no}
 use Rattle.world.specs.Run.{decided}
-use Rattle.scan.specs.Scans.{heldWith}
+use Rattle.scan.specs.Inside.{heldWith}
 
 pub decided-no : {A : Type 0} (n : ℕ) (a b : A) → (n ≡ 0 → ⊥) → decided n a b ≡ b
 decided-no zero a b h = absurd (h refl)

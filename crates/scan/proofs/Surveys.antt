@@ -32,7 +32,8 @@ use Rattle.opening.proofs.Tables.{clog-none, clog-held, log-within}
 use Rattle.scan.specs.declared.Scanned.{Scanned}
 use Rattle.scan.specs.declared.Surveyed.{Surveyed}
 use Rattle.scan.specs.Scans.{found, scanned}
-use Rattle.scan.specs.Surveys.{surveyed, refusal, roomBy, together}
+use Rattle.scan.specs.Surveys.{surveyed}
+use Rattle.scan.specs.Inside.{refusal, roomBy, together}
 use Rattle.scan.proofs.Held.{hold-none, decided-no}
 
 -- ---- what a clog holds

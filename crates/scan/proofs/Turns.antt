@@ -15,7 +15,8 @@ use Rattle.fields.specs.Files.{File, fileOf, content, unfit}
 use Rattle.fields.proofs.FileLaws.{fit-means}
 use Rattle.fields.proofs.Stored.{starts-means}
 use Rattle.wal.specs.Records.{logMagic, Record, image, begin, commit, abort, checkpoint, clean, endingNo, Parsed, joined, parse, recordsIn, startOf, logOf}
-use Rattle.wal.specs.Reading.{readTold, readIn, startIn, shown}
+use Rattle.wal.specs.Reading.{readTold, readIn, startIn}
+use Rattle.wal.specs.Inside.{shown}
 use Rattle.wal.specs.declared.Read.{Read}
 use Rattle.wal.proofs.ParseLaws.{parse-none}
 use Rattle.wal.proofs.ReadLaws.{Turn, stops, breaks, fails, goes, turn}
@@ -25,7 +26,8 @@ use Rattle.world.specs.Refusals.{anyOf, orElse}
 use Rattle.opening.specs.Opening.{statuses, pastDb, pastClog}
 use Rattle.opening.proofs.Laws.{or-zero}
 use Rattle.scan.specs.declared.Scanned.{Scanned}
-use Rattle.scan.specs.Scans.{nothing, found, scanned, imagePast, withImage, withStatus, withRecord, withRead, nextOf}
+use Rattle.scan.specs.Scans.{nothing, found, scanned, nextOf}
+use Rattle.scan.specs.Inside.{imagePast, withImage, withStatus, withRecord, withRead}
 use Rattle.scan.proofs.Sizes.{Sized, all-sized}
 use Rattle.scan.proofs.Held.{holdAll, hold-all, hold-none}
 

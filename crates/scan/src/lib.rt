@@ -19,8 +19,9 @@ ghost use Rattle.fields.specs.Answers.{told};
 ghost use Rattle.table.specs.Entries.{emptyTable, bounded};
 ghost use Rattle.world.specs.World.{filesOf};
 ghost use Rattle.opening.specs.Opening.{clogTable};
-ghost use Rattle.scan.specs.Scans.{nothing, scanned, imagePast, heldWith, withImage, withStatus, withRecord, withRead, nextOf};
-ghost use Rattle.scan.specs.Surveys.{surveyed, refusal, roomBy, together};
+ghost use Rattle.scan.specs.Scans.{nothing, scanned, nextOf};
+ghost use Rattle.scan.specs.Inside.{imagePast, heldWith, withImage, withStatus, withRecord, withRead, refusal, roomBy, together};
+ghost use Rattle.scan.specs.Surveys.{surveyed};
 
 // What is found in a log.
 pub struct Scanned {

@@ -6,6 +6,7 @@ use mathlib.Core.Bool.{cond}
 use lib.ListN.{length}
 use lib.Dec.{ltb}
 use borrow.Author.Tests.{le-ltb}
+use Rattle.fields.specs.Answers.{noId, noTime}
 use Rattle.fields.specs.declared.TransactionId.{TransactionId}
 use Rattle.meta.specs.declared.Counters.{Counters}
 use Rattle.meta.specs.Page.{metaPage}
@@ -21,16 +22,17 @@ use Rattle.picks.specs.Picks.{pickedOf}
 use Rattle.stores.specs.declared.Plan.{Plan}
 use Rattle.stores.specs.declared.Kind.the-variants as kind
 use Rattle.stores.specs.Plans.{meant}
-use Rattle.plans.specs.Planned.{planOf, noId, noTime, marked}
+use Rattle.plans.specs.Planned.{planOf, marked}
 use Rattle.plans.proofs.Meanings.{advance-means}
 use Rattle.form.specs.declared.Store.{Store}
 use Rattle.form.specs.Store.{residentOf, memOf, worldOf, laidStore}
 use Rattle.form.proofs.Arrays.{Sized}
 use Rattle.form.proofs.Front.{front-means, entries-length, touched-length, table-same, frames-same, touched-same}
 use Rattle.ready.specs.declared.Ready.{Ready}
-use Rattle.ready.specs.Ready.{readyFor, readied, metaOf, refillTo, refill, idle}
+use Rattle.ready.specs.Ready.{readied, metaOf, refillTo, refill, idle}
+use Rattle.ready.specs.Inside.{readyFor}
 use Rattle.ready.proofs.Prepared.{ready-still}
-use Rattle.settle.specs.Sealed.{countersOf, markedStore, sealedAs}
+use Rattle.settle.specs.Inside.{countersOf, markedStore, sealedAs}
 use Rattle.settle.proofs.Sealed.{sealed-ready}
 
 module _ (P : ℕ) (v : TransactionId) (s : Store) (log db clog frames : List ℕ) (e0 : frontNo P (worldOf s log db clog frames) ≡ 0) (z : Sized s) where

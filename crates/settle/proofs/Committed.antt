@@ -37,9 +37,10 @@ use Rattle.form.specs.Store.{entriesOf, residentOf, memOf, worldOf, laidStore}
 use Rattle.form.proofs.Arrays.{Sized}
 use Rattle.form.proofs.Front.{InForm, front-means, touched-length, resident-are, touched-are}
 use Rattle.ready.specs.declared.Ready.{Ready}
-use Rattle.ready.specs.Ready.{readyFor, readied, metaOf, refillTo, refill, idle}
+use Rattle.ready.specs.Ready.{readied, metaOf, refillTo, refill, idle}
+use Rattle.ready.specs.Inside.{readyFor}
 use Rattle.ready.proofs.Prepared.{ready-still}
-use Rattle.settle.specs.Sealed.{countersOf, endedStore, sealedAs}
+use Rattle.settle.specs.Inside.{countersOf, endedStore, sealedAs}
 use Rattle.settle.proofs.Sealed.{sealed-ready, ended-no, ended-left}
 
 module _ (P : ℕ) (s : Store) (log db clog frames : List ℕ) (e0 : frontNo P (worldOf s log db clog frames) ≡ 0) (z : Sized s) where

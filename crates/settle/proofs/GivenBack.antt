@@ -25,7 +25,7 @@ use Rattle.picks.specs.declared.Picked.{Picked}
 use Rattle.picks.specs.Picks.{Seat, seat, seatsOf, pickedOf}
 use Rattle.plans.proofs.Meanings.{page-at, slot-at}
 use Rattle.ready.specs.Ready.{refillTo, refill}
-use Rattle.settle.specs.Sealed.{past, raisedTo, raisedBy}
+use Rattle.settle.specs.Inside.{past, raisedTo, raisedBy}
 
 -- ---- the page count past one page more
 

@@ -7,6 +7,7 @@ use mathlib.Core.Bool.{Bool, true, false, cond, _||_}
 use lib.ListN.{length}
 use lib.Dec.{ltb, eqb}
 use borrow.Author.Tests.{eqb-true}
+use Rattle.fields.specs.Answers.{noTime}
 use Rattle.fields.proofs.Tests.{neither}
 use Rattle.fields.specs.declared.TransactionId.{TransactionId}
 use Rattle.fields.specs.Files.{File, lay}
@@ -33,16 +34,17 @@ use Rattle.picks.specs.Picks.{chosen, seatsOf, pickedOf}
 use Rattle.stores.specs.declared.Plan.{Plan}
 use Rattle.stores.specs.declared.Kind.the-variants as kind
 use Rattle.stores.specs.Plans.{meant}
-use Rattle.plans.specs.Planned.{planOf, noTime}
+use Rattle.plans.specs.Planned.{planOf}
 use Rattle.plans.proofs.Meanings.{chosen-data, rollback-means}
 use Rattle.form.specs.declared.Store.{Store}
 use Rattle.form.specs.Store.{entriesOf, residentOf, touchedOf, memOf, worldOf, laidStore}
 use Rattle.form.proofs.Arrays.{Sized}
 use Rattle.form.proofs.Front.{InForm, front-means, touched-length, resident-are, touched-are}
 use Rattle.ready.specs.declared.Ready.{Ready}
-use Rattle.ready.specs.Ready.{readyFor, readied, metaOf, refill, idle}
+use Rattle.ready.specs.Ready.{readied, metaOf, refill, idle}
+use Rattle.ready.specs.Inside.{readyFor}
 use Rattle.ready.proofs.Prepared.{ready-still, ready-no}
-use Rattle.settle.specs.Sealed.{countersOf, endedStore, raisedBy, sealedAs}
+use Rattle.settle.specs.Inside.{countersOf, endedStore, raisedBy, sealedAs}
 use Rattle.settle.proofs.Sealed.{sealed-ready, ended-no, ended-left}
 use Rattle.settle.proofs.GivenBack.{refill-is, raised-is, other-page, refilled-either}
 

@@ -41,9 +41,10 @@ use Rattle.form.specs.Store.{entriesOf, residentOf, worldOf, laidStore}
 use Rattle.form.proofs.Arrays.{Sized, length-first}
 use Rattle.form.proofs.Front.{front-means, entries-are, resident-length, resident-are, frames-same}
 use Rattle.ready.specs.declared.Ready.{Ready}
-use Rattle.ready.specs.Ready.{prepared, remembered, readyFor, readied, metaOf, refill, filesTo, idle, withMeta}
+use Rattle.ready.specs.Ready.{prepared, readied, metaOf, refill, filesTo, idle, withMeta}
+use Rattle.ready.specs.Inside.{remembered, readyFor}
 use Rattle.ready.proofs.Prepared.{some-carried, meta-is, ready-as, front-call, ready-no, ready-short, call-hold}
-use Rattle.settle.specs.Sealed.{endedStore, slotFor, sealedStore, unless, sealedAs}
+use Rattle.settle.specs.Inside.{endedStore, slotFor, sealedStore, unless, sealedAs}
 
 -- ---- the slot of a page's frame
 

@@ -1,1 +1,1 @@
-pub mod Sealed
+pub mod Inside

@@ -25,8 +25,9 @@ ghost use Prim.Native.Nat.{max};
 ghost use Rattle.world.specs.Calls.{Commit, Rollback, Advance};
 ghost use Rattle.stores.specs.Room.{cutOf};
 ghost use Rattle.form.specs.Store.{outcome, called};
-ghost use Rattle.ready.specs.Ready.{readyFor, readied, calledTo, countedFor, toldBy, toldFor};
-ghost use Rattle.settle.specs.Sealed.{countersOf, endedStore, markedStore, past, raisedBy, slotFor, sealedAs};
+ghost use Rattle.ready.specs.Ready.{readied, calledTo, countedFor, toldBy, toldFor};
+ghost use Rattle.ready.specs.Inside.{readyFor};
+ghost use Rattle.settle.specs.Inside.{countersOf, endedStore, markedStore, past, raisedBy, slotFor, sealedAs};
 
 // ---- what these calls have in common
 

@@ -31,7 +31,8 @@ use Rattle.stores.specs.declared.Step.the-variants.{LogImage, LogBegin, 
 use Rattle.stores.specs.declared.Needs.{Needs}
 use Rattle.stores.specs.declared.Cut.{Cut}
 use Rattle.stores.specs.Plans.{stepsOf, meaning, meant}
-use Rattle.stores.specs.Room.{formNo, numberFor, Carried, cutOf, carried, needing, needsOf, costOf, shortNo, Enough}
+use Rattle.stores.specs.Room.{formNo, numberFor, Carried, cutOf, carried}
+use Rattle.stores.specs.Inside.{needing, needsOf, costOf, shortNo, Enough}
 use Rattle.stores.proofs.StepLaws.{enough-here, enough-next}
 
 -- ---- the stores from a place on

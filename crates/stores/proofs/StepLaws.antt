@@ -28,7 +28,7 @@ use Rattle.clog.proofs.Theorems.{recorded-plain, compacted-plain}
 use Rattle.world.specs.World.{Files, filesOf}
 use Rattle.world.specs.Steps as world
 use Rattle.world.specs.Steps.{apply, withLog, withDb, withClog, logBytes, dbEnd, clogEnd, sumOf, mostOf}
-use Rattle.stores.specs.Room.{Enough}
+use Rattle.stores.specs.Inside.{Enough}
 
 -- ---- a call on one file that is accepted
 

@@ -1,4 +1,5 @@
--- What is told of a plan's stores depends on the lengths of the log and of the clog alone. P is the page size. Assumes nothing.
+-- What is told of a plan's stores depends on the lengths of the log and of the clog alone, and two tellings that say the same are the same. P is the page size.
+-- Assumes nothing.
 use mathlib.Core.Path.{_≡_, refl, sym, ap, ap₂, _∙_}
 use mathlib.Core.List.{List, [], _∷_, map}
 use mathlib.Core.Bool.{cond}
@@ -22,10 +23,13 @@ use Rattle.world.specs.World.{Files, filesOf}
 use Rattle.world.specs.Steps as world
 use Rattle.world.specs.Steps.{apply, tell, tellAll, telling}
 use Rattle.stores.specs.declared.Plan.{Plan}
+use Rattle.stores.specs.declared.Telling.{Telling}
+use Rattle.stores.specs.declared.Telling.the-variants.{Store, Nothing}
 use Rattle.stores.specs.declared.Step.{Step}
 use Rattle.stores.specs.declared.Step.the-variants.{LogImage, LogBegin, LogCommit, LogAbort, LogCheckpoint, WritePage, WriteMeta, SetSlot, Compact, Truncate}
 use Rattle.stores.specs.Plans.{stepsOf, meaning, meant}
-use Rattle.stores.specs.Told.{firstTold, toldAt, toldIn, toldBy, lensAfter, tellSteps}
+use Rattle.stores.specs.Told.{tellingTold, firstTold, toldAt, toldIn}
+use Rattle.stores.specs.Inside.{toldBy, lensAfter, tellSteps}
 
 begin-size : (id : ℕ) → length (encode (begin id)) ≡ 9
 unfolding encode
@@ -146,3 +150,18 @@ module _ (P : ℕ) (big : 36 ≤ P) (p : Plan) (k : ℕ) (n : Lens) where
     told-past j e h =
         let l : length (tellSteps P (stepsOf p) n) ≤ j = rw length-told h in
         ap firstTold (sym (drop-of-length-le (tellSteps P (stepsOf p) n) l)) ∙ told-store j e
+
+-- ---- what is told is what the enum holds
+
+abbrev tellingOf : List ℕ → Telling
+tellingOf [] = Nothing
+tellingOf (k ∷ []) = Nothing
+tellingOf (k ∷ o ∷ []) = Nothing
+tellingOf (k ∷ o ∷ n ∷ l) = Store k o n
+
+untold : (t : Telling) → tellingOf (tellingTold t) ≡ t
+untold (Store k o n) = refl
+untold Nothing = refl
+
+pub telling-same : (a b : Telling) → tellingTold a ≡ tellingTold b → a ≡ b
+telling-same a b e = sym (untold a) ∙ ap tellingOf e ∙ untold b

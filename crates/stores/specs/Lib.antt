@@ -1,3 +1,4 @@
 pub mod Plans
 pub mod Room
 pub mod Told
+pub mod Inside

@@ -21,8 +21,9 @@ ghost use Rattle.world.specs.World.{filesOf};
 ghost use Rattle.world.specs.Steps.{apply, applyAll};
 ghost use Rattle.world.specs.Refusals.{orElse};
 ghost use Rattle.stores.specs.Plans.{beginSteps, flushSteps, commitSteps, rollbackSteps, advanceSteps, metaStep, stepsOf, meaning, meant};
-ghost use Rattle.stores.specs.Room.{formNo, numberFor, cutOf, carried, needing, needsOf, costOf, shortNo, Enough};
-ghost use Rattle.stores.specs.Told.{tellingTold, firstTold, toldIn, toldBy, lens, lensAfter, tellSteps};
+ghost use Rattle.stores.specs.Room.{formNo, numberFor, cutOf, carried};
+ghost use Rattle.stores.specs.Inside.{needing, needsOf, costOf, shortNo, Enough, lens, toldBy, lensAfter, tellSteps};
+ghost use Rattle.stores.specs.Told.{tellingTold, firstTold, toldIn};
 
 // The most pages of a plan.
 const LIMIT: usize = 64;

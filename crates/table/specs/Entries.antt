@@ -9,7 +9,7 @@ use mathlib.Core.List.{List, [], _∷_, map}
 use mathlib.Core.Bool.{Bool, cond, _&&_}
 use lib.ListN.{length, take, replicate}
 use lib.Dec.{leb}
-use Rattle.sorted.specs.Sorted.{Hit, miss, hit, laidOn, placeBy, insertBy, insertAllBy, lookBy, ascendingBy}
+use Rattle.sorted.specs.Sorted.{Hit, miss, hit, laidOn, insertBy, insertAllBy, lookBy, ascendingBy}
 use Rattle.table.specs.declared.Status.{Status}
 use Rattle.table.specs.declared.Status.the-variants.{Active, Committed, Aborted}
 use Rattle.table.specs.declared.Entry.{Entry}
@@ -41,9 +41,6 @@ emptyTable N = record { entries = replicate N blank; count = 0 }
 abbrev pub idOf : Entry → ℕ
 idOf e = e .id .0
 
-abbrev pub placeOf : ℕ → List Entry → ℕ
-placeOf k l = placeBy idOf k l
-
 abbrev pub insertEntry : Entry → List Entry → List Entry
 insertEntry e l = insertBy idOf e l
 
@@ -61,11 +58,6 @@ knownOf (hit e) = Is (e .status)
 -- the status of the first entry with this id
 unfoldable pub statusOf : ℕ → List Entry → Known
 statusOf k l = knownOf (lookBy idOf k l)
-
--- the first word where it is one, else the second
-abbrev pub orKnown : Known → Known → Known
-orKnown (Is s) o = Is s
-orKnown Absent o = o
 
 unfoldable pub wellFormed : ℕ → Table → Bool
 wellFormed N t = leb (t .count) N && ascending (listOf t)
@@ -94,10 +86,6 @@ settledStatus Aborted = Aborted
 abbrev pub settledEntry : Entry → Entry
 settledEntry e = record { id = e .id; status = settledStatus (e .status) }
 
-abbrev pub settledKnown : Known → Known
-settledKnown (Is s) = Is (settledStatus s)
-settledKnown Absent = Absent
-
 abbrev pub activeToAborted : List Entry → List Entry
 activeToAborted l = map settledEntry l
 
@@ -116,10 +104,6 @@ abbrev pub timeOf : Status → ℕ
 timeOf Active = 0
 timeOf (Committed t) = t .0
 timeOf Aborted = 0
-
--- an entry's time, or its id
-abbrev pub numberOf : Bool → Entry → ℕ
-numberOf times e = cond times (timeOf (e .status)) (idOf e)
 
 abbrev pub largestId : List Entry → ℕ
 largestId l = largestBy idOf l

@@ -7,7 +7,8 @@ ghost use mathlib.Core.Path.{_≡_};
 ghost use Prim.Native.Nat.{_≤_, _<_, _+_, _-_, min, max};
 ghost use mathlib.Core.List.{_∷_, _++_};
 ghost use lib.ListN.{take, drop};
-ghost use Rattle.table.specs.Entries.{emptyTable, listOf, inserted, overlaid, statusOf, wellFormed, settledStatus, settledEntry, settledTable, largestBy, largestId, largestTime, numberOf, timeOf, next64, placeOf};
+ghost use Rattle.table.specs.Entries.{emptyTable, listOf, inserted, overlaid, statusOf, wellFormed, settledStatus, settledEntry, settledTable, largestBy, largestId, largestTime, timeOf, next64};
+ghost use Rattle.table.specs.Inside.{numberOf, placeOf};
 
 const LIMIT: usize = 256;
 

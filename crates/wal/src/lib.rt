@@ -15,7 +15,8 @@ ghost use Rattle.fields.specs.Bytes.{bytesOf};
 ghost use Rattle.fields.specs.Files.{fileOf};
 ghost use Rattle.fields.specs.Answers.{outcome};
 ghost use Rattle.wal.specs.Records.{bodyOf, recordOf, encode, image, begin, commit, abort, checkpoint};
-ghost use Rattle.wal.specs.Reading.{readTold, readIn, startIn, IsImage, shown, recordPlace, readPlace};
+ghost use Rattle.wal.specs.Reading.{readTold, readIn, startIn, IsImage};
+ghost use Rattle.wal.specs.Inside.{shown, recordPlace, readPlace};
 ghost use Rattle.wal.specs.Writing.{appendNo, appendedBytes, appended, truncated};
 
 const PAGE_IMAGE_TAG: u8 = 1;

@@ -8,7 +8,7 @@ use native.Mathlib.Numerals.{add-one}
 use native.Mathlib.Omega.{arith}
 use borrow.Author.Tests.{ltb-false, lt-ltb, le-ltb}
 use lib.Dec.{ltb, lit<}
-use lib.ListN.{length, drop, getD, length-append}
+use lib.ListN.{length, drop, getD, length-append, drop-of-length-le}
 use lib.Seq.{drop-cons}
 use Rattle.fields.specs.declared.TransactionId.{TransactionId}
 use Rattle.fields.specs.Files.{room}
@@ -34,7 +34,7 @@ use Rattle.world.specs.Refusals.{orElse, argumentNo, roomNo, holdNo, cal
 use Rattle.world.specs.Run.{done}
 use Rattle.world.proofs.Laws.{apply-append}
 use Rattle.world.proofs.RoomLaws.{begin-log, begin-db, begin-clog, flush-log, flush-db, flush-clog, commit-log, commit-db, commit-clog, rollback-db, rollback-clog, advance-log, advance-db, advance-clog}
-use Rattle.world.proofs.FrameLaws.{drop-past, catalog-resident, raised, refilled, revert-frames-size, revert-mem, revert-frames, meta-mem, meta-frames, meta-frames-size}
+use Rattle.world.proofs.FrameLaws.{catalog-resident, raised, refilled, revert-frames-size, revert-mem, revert-frames, meta-mem, meta-frames, meta-frames-size}
 
 -- ---- a call's number as one chain
 
@@ -179,7 +179,7 @@ module _ (P : ℕ) (w : World) (ps : List ℕ) (i : ℕ) (f : Files) where
 
   pub images-end : length ps ≤ i → applyAll P (images P w (drop i ps)) f ≡ f
   unfolding applyAll images
-  images-end h = rw (drop-past i ps h)
+  images-end h = rw (drop-of-length-le ps h)
 
   pub writes-turn : i < length ps → applyAll P (writes P w (drop i ps)) f ≡ applyAll P (writes P w (drop (i + 1) ps)) (apply P (Page (getD ps i 0) (heldPage P w (getD ps i 0))) f)
   unfolding applyAll writes
@@ -187,7 +187,7 @@ module _ (P : ℕ) (w : World) (ps : List ℕ) (i : ℕ) (f : Files) where
 
   pub writes-end : length ps ≤ i → applyAll P (writes P w (drop i ps)) f ≡ f
   unfolding applyAll writes
-  writes-end h = rw (drop-past i ps h)
+  writes-end h = rw (drop-of-length-le ps h)
 
 -- ---- begin
 

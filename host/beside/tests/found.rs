@@ -1,9 +1,10 @@
 //! The comparison holds where nothing is wrong, and fails under each deliberate mistake.
 use beside::wrong::WRONGS;
-use std::process::{Command, Output};
+use nyotmelang::emulated::command;
+use std::process::Output;
 
 fn compare(words: &[&str]) -> Output {
-    Command::new(env!("CARGO_BIN_EXE_compare")).args(words).output().expect("compare runs")
+    command(env!("CARGO_BIN_EXE_compare")).args(words).output().expect("compare runs")
 }
 
 fn text(output: &Output) -> String {

@@ -1,6 +1,7 @@
 //! What `record` writes of the Rust is what `replay` writes of the port, but for the whole buffers.
+use nyotmelang::emulated::command;
 use std::io::Write;
-use std::process::{Command, Stdio};
+use std::process::Stdio;
 
 const SCRIPT: &str = "case one\nxdpage 1\nxd 07\nopen\nbegin 1\nwrite 1 3\nflush 1\nwrite 3 4\nflush 3\ncuts rollback\nread 1\nflush 4294967295\nopen
 case two\nxdmeta 6 2 0 2\nxcmagic\nxc 0004\nxlmagic\nxlcommit 5 9\nopen\nalloctx\nmktx 0 9 3\ninstall 0\nwrite 3 1\ncutgo 2 commit\nopen\ntable 9
@@ -8,7 +9,7 @@ case three\nxdmeta 9 8 7 3\nxdcut 36\nxlmagic\nxlimg 1 7\nopen\nopen
 case four\nlapp begin 5\ncopen\ncrec 5 C 9\ncload\n";
 
 fn recorded(script: &str) -> (Option<i32>, String) {
-    let mut child = Command::new(env!("CARGO_BIN_EXE_record"))
+    let mut child = command(env!("CARGO_BIN_EXE_record"))
         .stdin(Stdio::piped())
         .stdout(Stdio::piped())
         .stderr(Stdio::null())

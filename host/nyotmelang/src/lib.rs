@@ -22,6 +22,7 @@ mod bytes;
 mod calls;
 mod crc;
 pub mod disk;
+pub mod emulated;
 pub mod executor;
 mod files;
 mod leaves;

@@ -1,6 +1,7 @@
 //! The program `carry` is killed at every store of a script, by itself and from outside. The files on disk must then be those of the library's cut, and the next
 //! opening must be accepted and tell what the library tells of these files.
 use nyotmelang::disk::{on_disk, DISK_SIZES};
+use nyotmelang::emulated::command;
 use nyotmelang::executor::Executor;
 use nyotmelang::script::{parse, Action, Command};
 use nyotmelang::transcript::{files_line, store_line, Answer};
@@ -8,7 +9,7 @@ use nyotmelang::{File, Files};
 use std::io::{BufRead, BufReader, Write};
 use std::os::unix::process::ExitStatusExt;
 use std::path::{Path, PathBuf};
-use std::process::{Child, Command as Process, Output, Stdio};
+use std::process::{Child, Output, Stdio};
 
 const SIGKILL: i32 = 9;
 
@@ -84,7 +85,7 @@ impl Drop for Folder {
 }
 
 fn start(args: &[&str], dir: &Path, script: &str) -> Child {
-    let mut child = Process::new(env!("CARGO_BIN_EXE_carry"))
+    let mut child = command(env!("CARGO_BIN_EXE_carry"))
         .args(args)
         .arg(dir)
         .stdin(Stdio::piped())

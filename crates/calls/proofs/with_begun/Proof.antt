@@ -1,6 +1,6 @@
 -- `calls::with_begun` meets its contract. Assumes nothing.
 use mathlib.Core.Path.{refl}
-use Rattle.calls.specs.Left.{begunStore}
+use Rattle.calls.specs.Inside.{begunStore}
 use Rattle.calls.proofs.with_begun.Statement.{statement}
 use Rattle.calls.proofs.with_begun.Tie as tie
 

@@ -7,7 +7,7 @@ use native.Mathlib.Nat.{zero-add}
 use borrow.Author.Needs.{needs}
 use lib.ListN.{length, drop, getD}
 use Rattle.clog.specs.Slots.{codes, entriesFrom, entriesIn, inUse}
-use Rattle.clog.specs.Calls.{strideOf}
+use Rattle.clog.specs.Inside.{strideOf}
 use Rattle.clog.proofs.Codes.{stride-count, stride-small, slots-done}
 use Rattle.clog.proofs.count_in.Statement.{statement}
 use Rattle.clog.proofs.count_in.Tie as tie

@@ -7,7 +7,7 @@ use borrow.Author.Needs.{needs}
 use lib.ListN.{length, drop, getD}
 use Rattle.table.specs.Entries.{emptyTable}
 use Rattle.clog.specs.Slots.{codes, entriesFrom, entriesIn}
-use Rattle.clog.specs.Calls.{pushAll, strideOf}
+use Rattle.clog.specs.Inside.{pushAll, strideOf}
 use Rattle.clog.proofs.Codes.{stride-turn, stride-small, slots-done, slots-room, list-begin, list-turn, list-done}
 use Rattle.clog.proofs.list_in.Statement.{statement}
 use Rattle.clog.proofs.list_in.Tie as tie

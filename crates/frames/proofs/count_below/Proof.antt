@@ -7,7 +7,8 @@ use native.Mathlib.Omega.{arith}
 use borrow.Author.Needs.{needs}
 use lib.ListN.{length, take, drop}
 use Rattle.sorted.proofs.Laws.{place-stop, place-on, place-end}
-use Rattle.frames.specs.Pages.{belowIn, number}
+use Rattle.frames.specs.Pages.{number}
+use Rattle.frames.specs.Inside.{belowIn}
 use Rattle.frames.proofs.count_below.Statement.{statement}
 use Rattle.frames.proofs.count_below.Tie as tie
 

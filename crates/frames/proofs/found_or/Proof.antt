@@ -1,8 +1,8 @@
 -- `frames::found_or` meets its contract, by whether the two are equal. Assumes nothing.
 use mathlib.Core.Path.{sym}
 use borrow.Author.Tests.{eq-eqb, ne-eqb}
+use Rattle.fields.proofs.Lists.{or-true}
 use Rattle.fields.proofs.Tests.{or-false}
-use Rattle.frames.proofs.Turns.{or-true}
 use Rattle.frames.proofs.found_or.Statement.{statement}
 use Rattle.frames.proofs.found_or.Tie as tie
 

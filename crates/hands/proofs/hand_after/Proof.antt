@@ -53,7 +53,8 @@ use denote.Triple.Walked.{says, Stays, stay-none, stay-slice, walkOf, goes-none,
 use denote.Triple.Clauses.{ensured, lasts}
 use denote.Exit.{yes}
 use Rattle.table.specs.Entries.{blank}
-use Rattle.hands.specs.Handing.{handedAs, toHand, replyOf}
+use Rattle.hands.specs.Handing.{handedAs}
+use Rattle.hands.specs.Inside.{toHand, replyOf}
 use Rattle.table.specs.declared.Entry.{Entry}
 use Rattle.table.specs.declared.Table.{Table}
 use Rattle.fields.specs.declared.Answer.{Answer}

@@ -5,7 +5,6 @@ use native.Mathlib.Omega.{arith}
 use borrow.Author.Needs.{needs}
 use borrow.Author.Tests.{not-true, not-false}
 use lib.ListN.{length, length-take}
-use Rattle.meta.specs.Page.{field}
 use Rattle.fields.proofs.FileLaws.{fit-means}
 use Rattle.meta.proofs.Laws.{version-zero, version-two, version-other, format-unfit, format-none, format-good, format-bad}
 use Rattle.meta.proofs.format_no.Statement.{statement}
@@ -35,7 +34,6 @@ get-u32-requires : tie.Need-get-u32-requires
 get-u32-requires c κs = search needs
 
 returns-3 : tie.Need-returns-3
-unfolding field
 returns-3 c =
     let m = c .before .before in
     let u = m .before .before .before in
@@ -43,7 +41,6 @@ returns-3 c =
     (version-zero _ (omega (arith, c .before .get-u32 .ensures))))
 
 returns-4 : tie.Need-returns-4
-unfolding field
 returns-4 c =
     let m = c .before .before .before in
     let u = m .before .before .before in
@@ -51,7 +48,6 @@ returns-4 c =
     (version-two _ (omega (arith, c .before .before .get-u32 .ensures))))
 
 returns-5 : tie.Need-returns-5
-unfolding field
 returns-5 c =
     let m = c .before .before .before in
     let u = m .before .before .before in

@@ -5,7 +5,6 @@ use native.Mathlib.Omega.{arith}
 use borrow.Author.Needs.{needs}
 use borrow.Author.Tests.{not-true, not-false}
 use lib.ListN.{length, length-take}
-use Rattle.meta.specs.Page.{field}
 use Rattle.fields.proofs.FileLaws.{fit-means}
 use Rattle.meta.proofs.Laws.{read-unfit, read-none, read-some}
 use Rattle.meta.proofs.read_meta.Statement.{statement}
@@ -41,7 +40,6 @@ get-u64-requires-3 : tie.Need-get-u64-requires-3
 get-u64-requires-3 c κs = search needs
 
 returns-3 : tie.Need-returns-3
-unfolding field
 returns-3 c =
     let m = c .before .before .before in
     let u = m .before .before .before in

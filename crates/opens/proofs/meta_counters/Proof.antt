@@ -1,5 +1,5 @@
 -- `opens::meta_counters` meets its contract. Assumes nothing.
-use Rattle.opens.specs.Opens.{metaCounters}
+use Rattle.opens.specs.Inside.{metaCounters}
 use borrow.Author.Needs.{needs}
 use Rattle.opens.proofs.meta_counters.Statement.{statement}
 use Rattle.opens.proofs.meta_counters.Tie as tie

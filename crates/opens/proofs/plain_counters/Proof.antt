@@ -1,5 +1,5 @@
 -- `opens::plain_counters` meets its contract. Assumes nothing.
-use Rattle.opens.specs.Opens.{plainCounters}
+use Rattle.opens.specs.Inside.{plainCounters}
 use borrow.Author.Needs.{needs}
 use Rattle.opens.proofs.plain_counters.Statement.{statement}
 use Rattle.opens.proofs.plain_counters.Tie as tie

@@ -1,5 +1,5 @@
 -- `opens::store_at_rest` meets its contract. Assumes nothing.
-use Rattle.opens.specs.Opens.{storeAtRest}
+use Rattle.opens.specs.Inside.{storeAtRest}
 use borrow.Author.Needs.{needs}
 use Rattle.opens.proofs.store_at_rest.Statement.{statement}
 use Rattle.opens.proofs.store_at_rest.Tie as tie

@@ -1,6 +1,7 @@
 -- `opens::unopened` meets its contract: nothing in the store. Assumes nothing.
-use Rattle.opening.specs.Opening.{noStore}
-use Rattle.opens.specs.Opens.{storeAtRest}
+
+use Rattle.form.specs.Store.{noStore}
+use Rattle.opens.specs.Inside.{storeAtRest}
 use borrow.Author.Needs.{needs}
 use Rattle.opens.proofs.unopened.Statement.{statement}
 use Rattle.opens.proofs.unopened.Tie as tie

@@ -1,6 +1,6 @@
 -- `packs::blank` meets its contract: what the three calls ensure. Assumes nothing.
-use Rattle.packs.specs.Packs.{blankStore}
 use borrow.Author.Needs.{needs}
+use Rattle.form.specs.Store.{noStore}
 use Rattle.packs.proofs.blank.Statement.{statement}
 use Rattle.packs.proofs.blank.Tie as tie
 
@@ -14,7 +14,7 @@ no-pages-requires : tie.Need-no-pages-requires
 no-pages-requires c κs = search needs
 
 returns : tie.Need-returns
-unfolding blankStore
+unfolding noStore
 returns c = rw (c .no-pages .ensures, c .before .no-frames .ensures, c .before .before .empty .ensures)
 
 pub blank-spec : {M : Type 1} → statement M

@@ -2,7 +2,8 @@
 use mathlib.Core.Path.{_≡_}
 use Prim.Native.Nat.{_+_, _≤_}
 use native.Mathlib.Omega.{arith}
-use Rattle.packs.specs.Packs.{field, slotIn}
+use Rattle.fields.specs.Bytes.{field}
+use Rattle.packs.specs.Packs.{slotIn}
 use Rattle.packs.proofs.Laws.{held-read}
 use borrow.Author.Needs.{needs}
 use Rattle.packs.proofs.held_in.Statement.{statement}

@@ -3,7 +3,8 @@ use mathlib.Core.Path.{_≡_}
 use Prim.Native.Nat.{ℕ}
 use lib.ListN.{length}
 use borrow.Author.Tests.{lt-ltb, le-ltb, eq-eqb, ne-eqb}
-use Rattle.packs.specs.Packs.{field, noTransaction}
+use Rattle.fields.specs.Bytes.{field}
+use Rattle.packs.specs.Packs.{noTransaction}
 use borrow.Author.Needs.{needs}
 use Rattle.packs.proofs.is_none.Statement.{statement}
 use Rattle.packs.proofs.is_none.Tie as tie

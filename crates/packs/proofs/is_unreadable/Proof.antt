@@ -4,7 +4,8 @@ use Prim.Native.Nat.{_≤_, _<_, min}
 use native.Mathlib.Omega.{arith}
 use lib.ListN.{length}
 use borrow.Author.Tests.{lt-ltb, le-ltb}
-use Rattle.packs.specs.Packs.{field, unreadable}
+use Rattle.fields.specs.Bytes.{field}
+use Rattle.packs.specs.Packs.{unreadable}
 use borrow.Author.Needs.{needs}
 use Rattle.packs.proofs.is_unreadable.Statement.{statement}
 use Rattle.packs.proofs.is_unreadable.Tie as tie

@@ -2,8 +2,8 @@
 use mathlib.Core.Path.{_≡_, sym, ap, _∙_}
 use Prim.Native.Nat.{min}
 use lib.ListN.{length}
+use Rattle.fields.proofs.Lists.{first-min}
 use Rattle.sorted.proofs.Laws.{length-of-mapped}
-use Rattle.packs.proofs.Laws.{first-min}
 use borrow.Author.Needs.{needs}
 use Rattle.packs.proofs.pack_entries.Statement.{statement}
 use Rattle.packs.proofs.pack_entries.Tie as tie

@@ -5,7 +5,8 @@ use Prim.Native.Nat.{_+_, _-_, _*_, _≤_}
 use native.Mathlib.Omega.{arith}
 use borrow.Author.Needs.{needs}
 use lib.ListN.{length, take, drop, replicate, length-set}
-use Rattle.packs.specs.Packs.{readAll, field}
+use Rattle.fields.specs.Bytes.{field}
+use Rattle.packs.specs.Packs.{readAll}
 use Rattle.packs.proofs.Laws.{hold-start, hold-turn, hold-end}
 use Rattle.packs.proofs.pages_in.Statement.{statement}
 use Rattle.packs.proofs.pages_in.Tie as tie

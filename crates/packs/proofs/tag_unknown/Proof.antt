@@ -4,7 +4,8 @@ use Prim.Native.Nat.{_+_, _-_, _*_, _≤_, _<_}
 use native.Mathlib.Omega.{arith}
 use borrow.Author.Needs.{needs}
 use lib.ListN.{drop}
-use Rattle.packs.specs.Packs.{unknownTag, field}
+use Rattle.fields.specs.Bytes.{field}
+use Rattle.packs.specs.Packs.{unknownTag}
 use Rattle.packs.proofs.Laws.{unknown-here, unknown-on, unknown-end}
 use Rattle.packs.proofs.tag_unknown.Statement.{statement}
 use Rattle.packs.proofs.tag_unknown.Tie as tie

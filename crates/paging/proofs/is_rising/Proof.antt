@@ -3,9 +3,10 @@ use mathlib.Core.Path.{_≡_, refl, sym, ap, _∙_}
 use Prim.Native.Nat.{ℕ, _+_, _-_, _*_, _≤_, _<_, max}
 use native.Mathlib.Omega.{arith}
 use lib.ListN.{length, take, drop, getD}
+use Rattle.fields.specs.Bytes.{field}
 use Rattle.sorted.proofs.Laws.{ascending-on, ascending-stop, ascending-end}
 use Rattle.table.specs.Entries.{blank, idOf, ascending}
-use Rattle.packs.specs.Packs.{entryIn, field}
+use Rattle.packs.specs.Packs.{entryIn}
 use Rattle.packs.proofs.Laws.{length-read}
 use Rattle.paging.proofs.Laws.{entries, all-taken, id-at, id-before}
 use borrow.Author.Needs.{needs}

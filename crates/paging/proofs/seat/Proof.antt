@@ -3,7 +3,7 @@ use mathlib.Core.Path.{_∙_}
 use native.Mathlib.Omega.{arith}
 use lib.ListN.{length, length-take}
 use borrow.Author.Tests.{lt-ltb, le-ltb}
-use Rattle.paging.specs.Paging.{seatOver}
+use Rattle.paging.specs.Inside.{seatOver}
 use borrow.Author.Needs.{needs}
 use Rattle.paging.proofs.seat.Statement.{statement}
 use Rattle.paging.proofs.seat.Tie as tie

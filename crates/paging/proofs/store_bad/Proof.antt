@@ -2,8 +2,8 @@
 use borrow.Author.Tests.{lt-ltb, le-ltb}
 use mathlib.Core.Path.{_≡_, ap, _∙_}
 use Prim.Native.Nat.{_<_, _≤_}
+use Rattle.fields.specs.Bytes.{field}
 use Rattle.form.specs.declared.Held.{Held}
-use Rattle.packs.specs.Packs.{field}
 use Rattle.paging.proofs.Laws.{form-in}
 use borrow.Author.Needs.{needs}
 use Rattle.paging.proofs.store_bad.Statement.{statement}

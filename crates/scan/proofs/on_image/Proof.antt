@@ -1,6 +1,6 @@
 -- `scan::on_image` meets its contract. Assumes nothing.
 use borrow.Author.Needs.{needs}
-use Rattle.scan.specs.Scans.{withImage}
+use Rattle.scan.specs.Inside.{withImage}
 use Rattle.scan.proofs.on_image.Statement.{statement}
 use Rattle.scan.proofs.on_image.Tie as tie
 

@@ -1,6 +1,6 @@
 -- `scan::on_status` meets its contract. Assumes nothing.
 use borrow.Author.Needs.{needs}
-use Rattle.scan.specs.Scans.{withStatus}
+use Rattle.scan.specs.Inside.{withStatus}
 use Rattle.scan.proofs.on_status.Statement.{statement}
 use Rattle.scan.proofs.on_status.Tie as tie
 

@@ -1,5 +1,5 @@
 -- `scan::refused` meets its contract. Assumes nothing.
-use Rattle.scan.specs.Surveys.{refusal}
+use Rattle.scan.specs.Inside.{refusal}
 use borrow.Author.Needs.{needs}
 use Rattle.scan.proofs.refused.Statement.{statement}
 use Rattle.scan.proofs.refused.Tie as tie

@@ -1,6 +1,6 @@
 -- `scan::room_no` meets its contract: the tests of `roomBy`, one after the other. Assumes nothing.
 use borrow.Author.Tests.{lt-ltb, le-ltb}
-use Rattle.scan.specs.Surveys.{roomBy}
+use Rattle.scan.specs.Inside.{roomBy}
 use Rattle.scan.proofs.room_no.Statement.{statement}
 use Rattle.scan.proofs.room_no.Tie as tie
 

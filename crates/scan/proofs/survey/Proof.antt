@@ -1,7 +1,7 @@
 -- `scan::survey` meets its contract: one law for each way out. Assumes nothing.
 use mathlib.Core.Path.{sym, ap, _∙_}
 use Rattle.world.specs.World.{filesOf}
-use Rattle.scan.specs.Surveys.{together}
+use Rattle.scan.specs.Inside.{together}
 use Rattle.scan.proofs.Surveys.{survey-unfit, clog-fits, survey-format, survey-room, survey-full, survey-ending, survey-passed}
 use borrow.Author.Needs.{needs}
 use Rattle.scan.proofs.survey.Statement.{statement}

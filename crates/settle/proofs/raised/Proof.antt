@@ -3,7 +3,7 @@ use mathlib.Core.Path.{_≡_, ap, _∙_}
 use Prim.Native.Nat.{ℕ, _-_, _≤_}
 use native.Mathlib.Omega.{arith}
 use borrow.Author.Needs.{needs}
-use Rattle.settle.specs.Sealed.{raisedTo}
+use Rattle.settle.specs.Inside.{raisedTo}
 use Rattle.settle.proofs.GivenBack.{raised-start, raised-next}
 use Rattle.settle.proofs.raised.Statement.{statement}
 use Rattle.settle.proofs.raised.Tie as tie

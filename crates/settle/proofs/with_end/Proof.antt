@@ -1,6 +1,6 @@
 -- `settle::with_end` meets its contract. Assumes nothing.
 use mathlib.Core.Path.{refl}
-use Rattle.settle.specs.Sealed.{endedStore}
+use Rattle.settle.specs.Inside.{endedStore}
 use Rattle.settle.proofs.with_end.Statement.{statement}
 use Rattle.settle.proofs.with_end.Tie as tie
 

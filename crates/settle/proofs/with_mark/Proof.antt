@@ -1,6 +1,6 @@
 -- `settle::with_mark` meets its contract. Assumes nothing.
 use mathlib.Core.Path.{refl}
-use Rattle.settle.specs.Sealed.{markedStore}
+use Rattle.settle.specs.Inside.{markedStore}
 use Rattle.settle.proofs.with_mark.Statement.{statement}
 use Rattle.settle.proofs.with_mark.Tie as tie
 

@@ -7,7 +7,7 @@ use lib.ListN.{length, take, drop}
 use Rattle.world.specs.World.{Files, filesOf}
 use Rattle.world.specs.Steps.{applyAll}
 use Rattle.stores.specs.Plans.{stepsOf, meant}
-use Rattle.stores.specs.Room.{Enough}
+use Rattle.stores.specs.Inside.{Enough}
 use Rattle.stores.proofs.RoomLaws.{carry-end, carry-room, carry-next, carry-turn}
 use Rattle.stores.proofs.carry.Statement.{statement}
 use Rattle.stores.proofs.carry.Tie as tie

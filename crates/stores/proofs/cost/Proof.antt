@@ -1,5 +1,5 @@
 -- `stores::cost` meets its contract: store by store. Assumes nothing.
-use Rattle.stores.specs.Room.{costOf}
+use Rattle.stores.specs.Inside.{costOf}
 use mathlib.Core.Path.{sym, ap, _∙_}
 use borrow.Author.Needs.{needs}
 use Rattle.stores.proofs.cost.Statement.{statement}

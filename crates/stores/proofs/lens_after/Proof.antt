@@ -1,5 +1,5 @@
 -- `stores::lens_after` meets its contract: store by store. Assumes nothing.
-use Rattle.stores.specs.Told.{lens, lensAfter}
+use Rattle.stores.specs.Inside.{lens, lensAfter}
 use Rattle.stores.specs.declared.Step.{Step}
 use Prim.Native.Nat.{ℕ}
 use mathlib.Core.Path.{sym, ap, _∙_}

@@ -8,7 +8,8 @@ use lib.ListN.{length, drop, getD}
 use Rattle.world.specs.declared.Lens.{Lens}
 use Rattle.stores.specs.declared.Step.the-variants.{Truncate}
 use Rattle.stores.specs.Plans.{stepsOf}
-use Rattle.stores.specs.Told.{firstTold, toldBy, tellSteps}
+use Rattle.stores.specs.Told.{firstTold}
+use Rattle.stores.specs.Inside.{toldBy, tellSteps}
 use Rattle.stores.proofs.PlanLaws.{most-steps}
 use Rattle.stores.proofs.TellLaws.{after-most, tell-turn, tell-here}
 use Rattle.stores.proofs.lens_at.Statement.{statement}

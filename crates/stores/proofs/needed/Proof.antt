@@ -1,7 +1,7 @@
 -- `stores::needed` meets its contract. The invariant: what is counted and what the rest needs make up the whole; the sum stays small. Assumes nothing.
 use Rattle.stores.proofs.RoomLaws.{cost-most, log-turn, db-turn, clog-turn, needs-none}
 use Rattle.stores.proofs.PlanLaws.{most-steps}
-use Rattle.stores.specs.Room.{costOf, needsOf}
+use Rattle.stores.specs.Inside.{costOf, needsOf}
 use Rattle.stores.specs.Plans.{stepsOf, meant}
 use Rattle.stores.specs.declared.Needs.{Needs}
 use Rattle.world.specs.Steps.{logBytes, dbEnd, clogEnd, sumOf, mostOf}

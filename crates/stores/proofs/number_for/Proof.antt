@@ -7,7 +7,8 @@ use borrow.Author.Needs.{needs}
 use Rattle.world.specs.Refusals.{orElse}
 use Rattle.stores.specs.declared.Needs.{Needs}
 use Rattle.stores.specs.Plans.{meant}
-use Rattle.stores.specs.Room.{formNo, needsOf, shortNo}
+use Rattle.stores.specs.Room.{formNo}
+use Rattle.stores.specs.Inside.{needsOf, shortNo}
 use Rattle.stores.proofs.RoomLaws.{orElse-first, formed-log}
 use Rattle.stores.proofs.number_for.Statement.{statement}
 use Rattle.stores.proofs.number_for.Tie as tie

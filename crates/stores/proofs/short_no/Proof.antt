@@ -1,5 +1,5 @@
 -- `stores::short_no` meets its contract: test by test. Assumes nothing.
-use Rattle.stores.specs.Room.{shortNo}
+use Rattle.stores.specs.Inside.{shortNo}
 use borrow.Author.Tests.{le-ltb, lt-ltb}
 use native.Mathlib.Omega.{arith}
 use Prim.Native.Nat.{_+_}

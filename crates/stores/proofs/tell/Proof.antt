@@ -1,6 +1,7 @@
 -- `stores::tell` meets its contract: no store, or the one that is asked for. Assumes nothing.
 use Rattle.stores.proofs.TellLaws.{told-long, told-zero, told-store, told-past}
-use Rattle.stores.specs.Told.{firstTold, toldBy}
+use Rattle.stores.specs.Told.{firstTold}
+use Rattle.stores.specs.Inside.{toldBy}
 use Rattle.stores.specs.declared.Step.{Step}
 use lib.Dec.{lit≤}
 use native.Mathlib.Omega.{arith}

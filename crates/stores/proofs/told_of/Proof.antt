@@ -1,5 +1,6 @@
 -- `stores::told_of` meets its contract: store by store. Assumes nothing.
-use Rattle.stores.specs.Told.{firstTold, toldBy}
+use Rattle.stores.specs.Told.{firstTold}
+use Rattle.stores.specs.Inside.{toldBy}
 use Rattle.stores.specs.declared.Step.{Step}
 use Prim.Native.Nat.{ℕ}
 use mathlib.Core.List.{[], _∷_}

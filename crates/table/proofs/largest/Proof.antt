@@ -6,7 +6,8 @@ use native.Mathlib.Omega.{arith}
 use borrow.Author.Needs.{needs}
 use lib.ListN.{length, drop}
 use Rattle.sorted.proofs.Laws.{length-of-mapped}
-use Rattle.table.specs.Entries.{largestBy, numberOf, listOf}
+use Rattle.table.specs.Entries.{largestBy, listOf}
+use Rattle.table.specs.Inside.{numberOf}
 use Rattle.table.proofs.Laws.{largest-on, largest-end}
 use Rattle.table.proofs.largest.Statement.{statement}
 use Rattle.table.proofs.largest.Tie as tie

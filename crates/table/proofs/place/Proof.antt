@@ -7,7 +7,8 @@ use native.Mathlib.Omega.{arith}
 use borrow.Author.Needs.{needs}
 use lib.ListN.{length, take, drop}
 use Rattle.sorted.proofs.Laws.{place-stop, place-on, place-end}
-use Rattle.table.specs.Entries.{placeOf, idOf, blank}
+use Rattle.table.specs.Entries.{idOf, blank}
+use Rattle.table.specs.Inside.{placeOf}
 use Rattle.table.proofs.place.Statement.{statement}
 use Rattle.table.proofs.place.Tie as tie
 
