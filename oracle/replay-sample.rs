@@ -35,9 +35,9 @@ static LOST: AtomicBool = AtomicBool::new(false);
 // An advance has two stores: all that goes to the clog, and page 0.
 static ADVANCE: AtomicBool = AtomicBool::new(false);
 
-// Linux on x86-64.
-const WRITE: c_long = 1;
-const FTRUNCATE: c_long = 77;
+// Linux's numbers, on x86-64 and on Arm.
+const WRITE: c_long = if cfg!(target_arch = "x86_64") { 1 } else { 64 };
+const FTRUNCATE: c_long = if cfg!(target_arch = "x86_64") { 77 } else { 46 };
 
 extern "C" {
     fn syscall(number: c_long, ...) -> c_long;
