@@ -1,13 +1,13 @@
 -- Laws of files: sizes, what the file holds after something was laid into it, byte by byte and whole, and after it was cut back to its header. Assumes nothing.
-use mathlib.Core.Path.{_≡_, refl, sym, ap, _∙_}
-use mathlib.Core.List.{List, [], _∷_, _++_}
+use mathlib.Core.Path.{_≡_, refl, sym, _∙_}
+use mathlib.Core.List.{List, _++_}
 use mathlib.Core.Bool.{Bool, true, false, _||_}
-use Prim.Native.Nat.{ℕ, zero, suc, _+_, _-_, _≤_, _<_, max}
+use Prim.Native.Nat.{ℕ, _+_, _-_, _≤_, _<_, max}
 use native.Mathlib.Omega.{arith}
 use lib.Dec.{ltb}
 use borrow.Author.Tests.{lt-ltb, le-ltb, ltb-false}
 use lib.ListN.{length, take, drop, getD, replicate, length-append, length-take, length-replicate, getD-replicate, List·getD-eq-default}
-use lib.Seq.{sets, length-sets, sets-eq, length-take-le, getD-take, take-at}
+use lib.Seq.{sets, length-sets, sets-eq, length-take-le, getD-take, take-at, ext-getD}
 use Rattle.fields.specs.Bytes.{Bytes}
 use Rattle.fields.specs.Files.{File, fileOf, content, room, lay, append, header, unfit}
 use Rattle.fields.proofs.Tests.{Order, less, most, order}
@@ -22,6 +22,28 @@ byte-past n xs i h = List·getD-eq-default (take n xs) 0 (rw length-take (omega 
 pub content-length : (f : File) → f .len ≤ room f → length (content f) ≡ f .len
 content-length f h = length-take-le (f .len) (f .bytes) h
 
+-- two files are one by their sizes, what they hold, and the buffers past that
+pub file-ext : (f g : File) → room f ≡ room g → f .len ≡ g .len → ((i : ℕ) → getD (content f) i 0 ≡ getD (content g) i 0) →
+    ((i : ℕ) → g .len ≤ i → getD (f .bytes) i 0 ≡ getD (g .bytes) i 0) → f ≡ g
+file-ext f g size len same past = λ j. record { bytes = bytes j; len = len j }
+  where
+    go : (i : ℕ) → Order i (g .len) → getD (f .bytes) i 0 ≡ getD (g .bytes) i 0
+    go i (less p) = sym (byte-in (f .len) (f .bytes) i (omega (arith, len))) ∙ same i ∙ byte-in (g .len) (g .bytes) i p
+    go i (most p) = past i p
+
+    bytes : f .bytes ≡ g .bytes
+    bytes = ext-getD 0 (f .bytes) (g .bytes) size (λ i l. go i (order i (g .len)))
+
+-- files that agree on their first h bytes have the same header
+pub same-front : (h : ℕ) (f g : File) → f .len ≤ room f → g .len ≤ room g → h ≤ f .len → h ≤ g .len →
+    ((i : ℕ) → i < h → getD (content g) i 0 ≡ getD (content f) i 0) → take h (content g) ≡ take h (content f)
+same-front h f g p q l m e =
+    let a : length (take h (content g)) ≡ h = length-take-le h (content g) (omega (arith, content-length g q)) in
+    let b : length (take h (content f)) ≡ h = length-take-le h (content f) (omega (arith, content-length f p)) in
+    ext-getD 0 (take h (content g)) (take h (content f)) (a ∙ sym b) (λ i j.
+    let k : i < h = omega (arith, a) in
+    getD-take h (content g) i 0 k ∙ e i k ∙ sym (getD-take h (content f) i 0 k))
+
 module _ (f : File) (at : ℕ) (ys : List ℕ) where
   pub lay-room : room (lay f at ys) ≡ room f
   unfolding lay
@@ -30,6 +52,13 @@ module _ (f : File) (at : ℕ) (ys : List ℕ) where
   pub lay-len : lay f at ys .len ≡ max (f .len) (at + length ys)
   unfolding lay
   lay-len = refl
+
+  -- past the length and past what is laid the buffer stays
+  pub lay-past : (i : ℕ) → max (f .len) (at + length ys) ≤ i → getD (lay f at ys .bytes) i 0 ≡ getD (f .bytes) i 0
+  unfolding lay
+  lay-past i h =
+      let l : f .len + length {A = ℕ} (replicate (at - f .len) 0) ≤ i = rw length-replicate (omega arith) in
+      sets-after ys (sets (f .bytes) (f .len) (replicate (at - f .len) 0)) at i (omega arith) ∙ sets-after (replicate (at - f .len) 0) (f .bytes) (f .len) i l
 
   -- a place that is not past the length leaves no gap
   pub lay-within : at ≤ f .len → lay f at ys ≡ fileOf (sets (f .bytes) at ys) (max (f .len) (at + length ys))
@@ -133,3 +162,8 @@ module _ (limit size len : ℕ) where
 
   pub fit-ok : size ≤ limit → len ≤ size → unfit limit size len ≡ false
   fit-ok h l = sym (unfit-len h) ∙ le-ltb size len l
+
+-- which length it is does not matter, if it is within the buffer
+pub unfit-same : (limit size a b : ℕ) → a ≤ size → b ≤ size → unfit limit size a ≡ unfit limit size b
+unfolding unfit
+unfit-same limit size a b h l = rw (le-ltb size a h, le-ltb size b l)

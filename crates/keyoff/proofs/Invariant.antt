@@ -23,10 +23,11 @@ use Rattle.world.specs.World.{Files, World}
 use Rattle.world.specs.Refusals.{anyOf}
 use Rattle.opening.specs.Opening.{records, statuses, pastClog}
 use Rattle.opening.proofs.Tables.{lastWord}
+use Rattle.opening.proofs.LogFiles.{Reads}
 use Rattle.keyoff.specs.KeyOff.{kept}
-use Rattle.keyoff.proofs.Images.{AllRest, Agrees}
+use Rattle.opening.proofs.Replays.{Agrees}
+use Rattle.keyoff.proofs.Images.{AllRest}
 use Rattle.keyoff.proofs.Page.{Stands}
-use Rattle.keyoff.proofs.Words.{Reads}
 
 -- The statuses, id by id: L the log's last word, C what the clog's slot loads as, T the table in memory. size is that of the clog's buffer
 pub record Marks (L C T : ℕ → Known) (mark size : ℕ) : Type 0 where

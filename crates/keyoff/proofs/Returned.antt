@@ -51,7 +51,7 @@ from-world P u r =
     }
 
 pub key-off-code : (P : ℕ) → 36 ≤ P → (lens : Lens) (log db clog frames : List ℕ) (cs : List Call) (u : Outcome) →
-    BytesIn (filesOf lens log db clog) → AllTyped cs → OpenedWithMeta P (filesOf lens log db clog) frames →
+    BytesIn (filesOf lens log db clog) → AllTyped cs → OpenedWithMeta P (filesOf lens log db clog) (opening P (filesOf lens log db clog) frames) →
     Ran P (opened P lens log db clog frames .outcome) cs u → NoZeroFlush P cs (worldIn (opened P lens log db clog frames .outcome)) → StoreReopens P u
 key-off-code P big lens log db clog frames cs u bytes typed meta ran quiet =
     let e = opened-is P lens log db clog frames (meta .accepted) in

@@ -1,34 +1,34 @@
 -- A store that was opened with a meta page of version 0 or 2 meets the invariant. P is the page size. Assumes nothing.
 use mathlib.Core.Path.{_≡_, refl, sym, ap, _∙_, subst}
-use mathlib.Core.List.{List, [], _∷_}
-use mathlib.Core.Bool.{Bool, true, false}
-use Prim.Native.Nat.{ℕ, _+_, _/_, _^_, _≤_, _<_}
+use mathlib.Core.List.{List, []}
+use mathlib.Core.Bool.{true}
+use Prim.Native.Nat.{ℕ, _+_, _/_, _^_, _<_}
 use native.Mathlib.Omega.{arith}
 use lib.ListN.{length}
-use Rattle.fields.specs.Files.{File, content, room}
+use Rattle.fields.specs.Files.{content, room}
 use Rattle.table.specs.declared.Status.{Status}
 use Rattle.table.specs.declared.Status.the-variants.{Active, Committed, Aborted}
-use Rattle.table.specs.declared.Entry.{Entry}
 use Rattle.table.specs.declared.Known.{Known}
 use Rattle.table.specs.declared.Known.the-variants.{Is, Absent}
-use Rattle.table.specs.Entries.{idOf, statusOf}
-use Rattle.clog.specs.Slots.{codeOf, slotOf, validClog, openClog, recordAll, settled}
-use Rattle.clog.proofs.SlotLaws.{slot-within, settled-room, settled-len, settled-header}
-use Rattle.clog.proofs.TableLaws.{knownAs, known-active, known-committed, known-aborted, valid-same, open-valid}
-use Rattle.meta.specs.Page.{hasMeta, storedMark}
+use Rattle.table.specs.Entries.{statusOf}
+use Rattle.table.proofs.Facts.{absent-not}
+use Rattle.clog.specs.Slots.{codeOf, slotOf, validClog}
+use Rattle.clog.proofs.SlotLaws.{slot-within}
+use Rattle.clog.proofs.TableLaws.{knownAs, known-active, known-committed, known-aborted}
+use Rattle.meta.specs.Page.{hasMeta, storedMark, version, goodVersion}
 use Rattle.world.specs.World.{Files, World}
 use Rattle.world.specs.Refusals.{anyOf}
 use Rattle.world.proofs.FormLaws.{InForm}
-use Rattle.opening.specs.Opening.{records, replayed, statuses, logTable, clogTable, fullTable, openNo, withMeta, Opening, opening}
+use Rattle.opening.specs.Opening.{records, replayed, statuses, clogTable, fullTable, openNo, withMeta, Opening, opening}
 use Rattle.opening.proofs.Laws.{world-meta, accepted}
-use Rattle.opening.proofs.Tables.{lastWord, clog-none, clog-word, full-word, nothing}
+use Rattle.opening.proofs.Tables.{lastWord, clog-word, word-none}
+use Rattle.opening.proofs.LogFiles.{cut-reads, cut-records}
 use Rattle.opening.proofs.Formed as formed
-use Rattle.opening.proofs.Formed.{absent-not, left-valid, Passed, no-means, opened-formed, clog-agrees}
+use Rattle.opening.proofs.Formed.{left-valid, Passed, no-means, opened-formed, clog-agrees}
 use Rattle.keyoff.specs.KeyOff.{OpenedWithMeta, BytesIn, kept}
-use Rattle.keyoff.proofs.Images.{agrees-none}
+use Rattle.opening.proofs.Replays.{agrees-none}
 use Rattle.keyoff.proofs.Page.{Stands}
-use Rattle.keyoff.proofs.Typed.{stored-small}
-use Rattle.keyoff.proofs.Words.{own-word, word-none, cut-reads, cut-records}
+use Rattle.keyoff.proofs.Typed.{stored-field}
 use Rattle.keyoff.proofs.Invariant.{Inv, Kept}
 
 -- what a status becomes in the clog and back
@@ -51,18 +51,18 @@ kept-there Aborted = (Aborted, refl)
 slot-there : (c : ℕ) (s : Status) → knownAs c ≡ Is s → c ≡ 0 → ⊥
 slot-there c s h e = absent-not (knownAs c) s (rw e) h
 
-module _ (P : ℕ) (f : Files) (frames : List ℕ) (ok : openNo P f frames ≡ 0) (has : hasMeta P (content (replayed P f)) ≡ true) where
+module _ (P : ℕ) (f : Files) (frames : List ℕ) (p : Passed P f frames) (has : hasMeta P (content (replayed P f)) ≡ true) where
   form : InForm P (withMeta P f frames)
-  form = rw (world-meta P f frames has) at (opened-formed P f frames ok)
+  form = rw (world-meta P f frames has) at (opened-formed P f frames p)
 
   -- the clog that is left says what the table says
   agrees : (k : ℕ) → statusOf k (clogTable (withMeta P f frames .files .clog)) ≡ kept (statusOf k (fullTable P f))
   unfolding withMeta
-  agrees k = rw (world-meta P f frames has) at (clog-agrees P f frames ok has k) ∙ kept-is (statusOf k (fullTable P f))
+  agrees k = rw (world-meta P f frames has) at (clog-agrees P f frames p has k) ∙ kept-is (statusOf k (fullTable P f))
 
   clog-valid : validClog (withMeta P f frames .files .clog) ≡ true
   unfolding withMeta
-  clog-valid = left-valid P f frames ok
+  clog-valid = left-valid P f frames p
 
   -- so each slot loads as the table's status
   slots-are : (k : ℕ) → knownAs (slotOf 8 (content (withMeta P f frames .files .clog)) k) ≡ kept (statusOf k (fullTable P f))
@@ -80,13 +80,13 @@ module _ (P : ℕ) (f : Files) (frames : List ℕ) (ok : openNo P f frames ≡ 0
   -- the log that is left has no record
   log-left : records P (withMeta P f frames .files .log) ≡ []
   unfolding withMeta
-  log-left = cut-records P (f .log) (no-means P f frames ok .log-room)
+  log-left = cut-records P (f .log) (p .log-room)
 
   silent : (t : ℕ) (s : Status) → lastWord t (records P (withMeta P f frames .files .log)) ≡ Is s → ⊥
   silent t s h = absent-not _ s (rw log-left (word-none t)) h
 
   module _ (page : Stands P (content (replayed P f)) (storedMark (content (replayed P f)))) (small : storedMark (content (replayed P f)) < 2 ^ 64) where
-    pub starts : Inv P (withMeta P f frames .files) (length frames) (fullTable P f) (storedMark (content (replayed P f)))
+    starts : Inv P (withMeta P f frames .files) (length frames) (fullTable P f) (storedMark (content (replayed P f)))
     unfolding withMeta
     starts =
         record {
@@ -97,7 +97,7 @@ module _ (P : ℕ) (f : Files) (frames : List ℕ) (ok : openNo P f frames ≡ 0
           clog-size = form .clog-size;
           clog-len = form .clog-len;
           one-frame = form .one-frame;
-          reads = cut-reads P (f .log) (no-means P f frames ok .log-room);
+          reads = cut-reads P (f .log) (p .log-room);
           rest = rw log-left tt;
           agrees = rw log-left (agrees-none P (replayed P f));
           ids = rw log-left (unfold statuses anyOf in refl);
@@ -116,12 +116,17 @@ module _ (P : ℕ) (f : Files) (frames : List ℕ) (ok : openNo P f frames ≡ 0
           small = small;
         }
 
+-- the world that an opening leaves, however its log ends
+pub meta-keeps : (P : ℕ) (f : Files) (frames : List ℕ) → Passed P f frames → BytesIn f → hasMeta P (content (replayed P f)) ≡ true →
+    goodVersion (version (content (replayed P f))) ≡ true → Kept P (withMeta P f frames)
+unfolding withMeta
+meta-keeps P f frames p b has good =
+    starts P f frames p has (record { has = has; good = good; stored = refl }) (stored-field P f (p .images) (p .db-len) (b .0) (b .1) 24)
+
 -- the opened world
-pub opened-keeps : (P : ℕ) (f : Files) (frames : List ℕ) → BytesIn f → OpenedWithMeta P f frames → Kept P (opening P f frames .world)
-unfolding opening withMeta
+pub opened-keeps : (P : ℕ) (f : Files) (frames : List ℕ) → BytesIn f → OpenedWithMeta P f (opening P f frames) → Kept P (opening P f frames .world)
+unfolding opening
 opened-keeps P f frames b o =
     let ok : openNo P f frames ≡ 0 = o .accepted in
-    let p : Passed P f frames = no-means P f frames ok in
-    let m = stored-small P f (p .images) (p .db-len) (b .0) (b .1) in
     let e : opening P f frames .world ≡ withMeta P f frames = ap (λ (x : Opening). x .world) (accepted P f frames ok) ∙ world-meta P f frames (o .meta) in
-    subst (λ (v : World). Kept P v) (sym e) (starts P f frames ok (o .meta) (record { has = o .meta; good = o .version; stored = refl }) m)
+    subst (λ (v : World). Kept P v) (sym e) (meta-keeps P f frames (no-means P f frames ok) b (o .meta) (o .version))

@@ -20,30 +20,31 @@ use Rattle.table.specs.declared.Entry.{Entry}
 use Rattle.table.specs.declared.Known.{Known}
 use Rattle.table.specs.declared.Known.the-variants.{Is, Absent}
 use Rattle.table.specs.Entries.{insertEntry, statusOf}
-use Rattle.table.proofs.Facts.{set-ascending, status-set, status-kept, orKnown}
+use Rattle.table.proofs.Facts.{set-ascending, status-set, status-kept, orKnown, absent-not, no-status, own-status}
 use Rattle.clog.specs.Slots.{codeOf, slotOf, validClog, setSlot, clearSlots}
 use Rattle.clog.proofs.FourSlots.{code-small}
 use Rattle.clog.proofs.SlotLaws.{record-room, record-fit, record-header, record-same, record-other, compact-room, compact-len, compact-low, compact-high, compact-header}
 use Rattle.clog.proofs.TableLaws.{knownAs, valid-long, valid-same}
 use Rattle.meta.specs.Page.{metaPage}
-use Rattle.meta.proofs.Laws.{has-long, length-meta}
+use Rattle.meta.proofs.Laws.{length-meta}
 use Rattle.world.specs.World.{Files}
 use Rattle.world.specs.Refusals.{anyOf}
+use Rattle.world.proofs.FormLaws.{none-more}
 use Rattle.world.specs.Steps.{Log, Page, SetSlot, Compact, Truncate, apply}
-use Rattle.opening.proofs.Formed.{absent-not}
 use Rattle.opening.specs.Opening.{records, noted, statuses, pastClog}
-use Rattle.opening.proofs.Tables.{lastWord, nothing, other-word}
+use Rattle.opening.proofs.Tables.{lastWord, other-word, statuses-more, word-more, word-none}
+use Rattle.opening.proofs.LogFiles.{reads-long, cut-reads, cut-records, more-reads, more-records}
 use Rattle.keyoff.specs.KeyOff.{kept}
-use Rattle.keyoff.proofs.Images.{imaged, imagedAll, imaged-more, Rest, all-longer, all-more, agrees-none, agrees-page, agrees-zero}
-use Rattle.keyoff.proofs.Page.{stands-same, stands-new, first-written, first-kept}
-use Rattle.keyoff.proofs.Words.{own-word, none-more, statuses-more, word-more, word-none, reads-long, cut-reads, cut-records, more-reads, more-records}
+use Rattle.opening.proofs.Replays.{imaged, imagedAll, imaged-append, agrees-none}
+use Rattle.keyoff.proofs.Images.{Rest, all-longer, rest-append, agrees-page, agrees-zero}
+use Rattle.keyoff.proofs.Page.{stands-kept, stands-laid}
 use Rattle.keyoff.proofs.Invariant.{Marks, Inv}
 use Rattle.keyoff.proofs.Start.{kept-code}
 
 -- ---- statuses, id by id
 
 -- one id takes a word, and no other changes
-abbrev Sets : (ℕ → Known) → (ℕ → Known) → ℕ → Known → Type 0
+abbrev pub Sets : (ℕ → Known) → (ℕ → Known) → ℕ → Known → Type 0
 Sets A B id k = (B id ≡ k) × ((t : ℕ) → (id ≡ t → ⊥) → B t ≡ A t)
 
 sets-at : (A B : ℕ → Known) (id t : ℕ) (k : Known) → Sets A B id k → id ≡ t → B t ≡ k
@@ -109,10 +110,10 @@ marks-cut L C T C′ mark w size h low high m = record {
 abbrev pub entry : ℕ → Status → Entry
 entry id s = record { id = record { 0 = id }; status = s }
 
-table-sets : (id : ℕ) (s : Status) (l : List Entry) → Sets (λ t. statusOf t l) (λ t. statusOf t (insertEntry (entry id s) l)) id (Is s)
+pub table-sets : (id : ℕ) (s : Status) (l : List Entry) → Sets (λ t. statusOf t l) (λ t. statusOf t (insertEntry (entry id s) l)) id (Is s)
 table-sets id s l = (status-set (entry id s) l, λ t n. status-kept (entry id s) l t n)
 
-clog-sets : (id : ℕ) (s : Status) (f : File) → f .len ≤ room f → 8 + id / 4 < room f →
+pub clog-sets : (id : ℕ) (s : Status) (f : File) → f .len ≤ room f → 8 + id / 4 < room f →
     Sets (λ t. knownAs (slotOf 8 (content f) t)) (λ t. knownAs (slotOf 8 (content (setSlot 8 id (codeOf s) f)) t)) id (kept (Is s))
 clog-sets id s f h l = (
   ap knownAs (record-same 8 id (codeOf s) f h l (code-small s)) ∙ kept-code s,
@@ -120,12 +121,12 @@ clog-sets id s f h l = (
 )
 
 -- what recording leaves of the clog's form
-record SlotSet (f g : File) : Type 0 where
-  size : room g ≡ room f
-  len : g .len ≤ room g
-  valid : validClog f ≡ true → validClog g ≡ true
+pub record SlotSet (f g : File) : Type 0 where
+  pub size : room g ≡ room f
+  pub len : g .len ≤ room g
+  pub valid : validClog f ≡ true → validClog g ≡ true
 
-slot-set : (id : ℕ) (s : Status) (f : File) → f .len ≤ room f → 8 + id / 4 < room f → SlotSet f (setSlot 8 id (codeOf s) f)
+pub slot-set : (id : ℕ) (s : Status) (f : File) → f .len ≤ room f → 8 + id / 4 < room f → SlotSet f (setSlot 8 id (codeOf s) f)
 slot-set id s f h l = record {
   size = record-room 8 id (codeOf s) f;
   len = record-fit 8 id (codeOf s) f h l;
@@ -175,14 +176,14 @@ module _ (P : ℕ) (big : 36 ≤ P) (f : Files) (frames : ℕ) (table : List Ent
     sound = g .sound P (omega (arith, v .clog-size))
 
     now-records : records P (append (f .log) (encode r)) ≡ records P (f .log) ++ (r ∷ [])
-    now-records = more-records P (f .log) r (v .reads) space sound
+    now-records = more-records P (f .log) (v .reads) r sound space
 
     -- the log's words: the record's own, and else what it said
     word : (t : ℕ) → lastWord t (records P (append (f .log) (encode r))) ≡ orKnown (statusOf t (entry id s ∷ [])) (lastWord t (records P (f .log)))
     word t = rw now-records (word-more t (records P (f .log)) r ∙ rw (g .notes))
 
     set-word : lastWord id (records P (append (f .log) (encode r))) ≡ Is s
-    set-word = word id ∙ rw (own-word (entry id s) [])
+    set-word = word id ∙ rw (own-status (entry id s) [])
 
     here : (u : Status) → lastWord id (records P (append (f .log) (encode r))) ≡ Is u → Is u ≡ Is s
     here u h = sym h ∙ set-word
@@ -195,7 +196,7 @@ module _ (P : ℕ) (big : 36 ≤ P) (f : Files) (frames : ℕ) (table : List Ent
 
     pub inv-signed : length (insertEntry (entry id s) table) ≤ 256 →
         Inv P (apply P (SetSlot id s) (apply P (Log r) f)) frames (insertEntry (entry id s) table) mark
-    unfolding apply
+    unfolding apply imagedAll
     inv-signed few =
         let lr = lay-room (f .log) (f .log .len) (encode r) in
         let ll = lay-len (f .log) (f .log .len) (encode r) in
@@ -209,10 +210,10 @@ module _ (P : ℕ) (big : 36 ≤ P) (f : Files) (frames : ℕ) (table : List Ent
           clog-size = omega (arith, v .clog-size, c .size);
           clog-len = c .len;
           one-frame = v .one-frame;
-          reads = more-reads P (f .log) r (v .reads) space sound;
-          rest = rw now-records (all-more P (f .db .len) (records P (f .log)) r (v .rest) (g .rests P (f .db .len)));
+          reads = more-reads P (f .log) (v .reads) r sound space;
+          rest = rw now-records (rest-append P (f .db .len) (records P (f .log)) (r ∷ []) (v .rest) (g .rests P (f .db .len), tt));
           agrees = rw now-records (λ i.
-              imaged-more P (records P (f .log)) r i (getD (content (f .db)) i 0)
+              imaged-append P (records P (f .log)) (r ∷ []) i (getD (content (f .db)) i 0)
               ∙ g .still P i (imagedAll P (records P (f .log)) i (getD (content (f .db)) i 0))
               ∙ v .agrees i);
           ids = rw (now-records, statuses-more, g .notes, map-append, c .size) (none-more _ _ (v .ids) within);
@@ -232,13 +233,13 @@ module _ (P : ℕ) (big : 36 ≤ P) (f : Files) (frames : ℕ) (table : List Ent
   module _ (p : ℕ) (bs : List ℕ) (p0 : 0 < p) (p32 : p < 4294967295) (whole : length bs ≡ P)
       (space : f .log .len + length (encode (image p bs)) ≤ room (f .log)) (has : p * P + length bs ≤ room (f .db)) where
     page-records : records P (append (f .log) (encode (image p bs))) ≡ records P (f .log) ++ (image p bs ∷ [])
-    page-records = more-records P (f .log) (image p bs) (v .reads) space (omega arith, whole)
+    page-records = more-records P (f .log) (v .reads) (image p bs) (omega arith, whole) space
 
     same-statuses : statuses (records P (append (f .log) (encode (image p bs)))) ≡ statuses (records P (f .log))
     same-statuses = rw (page-records, statuses-more, append-nil)
 
     same-word : (t : ℕ) → lastWord t (records P (append (f .log) (encode (image p bs)))) ≡ lastWord t (records P (f .log))
-    same-word t = rw page-records (word-more t (records P (f .log)) (image p bs) ∙ rw (nothing t))
+    same-word t = rw page-records (word-more t (records P (f .log)) (image p bs) ∙ rw (no-status t))
 
     pub inv-page : Inv P (apply P (Page p bs) (apply P (Log (image p bs)) f)) frames table mark
     unfolding apply
@@ -247,7 +248,6 @@ module _ (P : ℕ) (big : 36 ≤ P) (f : Files) (frames : ℕ) (table : List Ent
         let ll = lay-len (f .log) (f .log .len) (encode (image p bs)) in
         let dr = lay-room (f .db) (p * P) bs in
         let dl = lay-len (f .db) (p * P) bs in
-        let first = has-long P (content (f .db)) (v .page .has) in
         record {
           log-size = omega (arith, v .log-size, lr);
           log-len = omega (arith, v .log-len, lr, ll);
@@ -256,11 +256,11 @@ module _ (P : ℕ) (big : 36 ≤ P) (f : Files) (frames : ℕ) (table : List Ent
           clog-size = v .clog-size;
           clog-len = v .clog-len;
           one-frame = v .one-frame;
-          reads = more-reads P (f .log) (image p bs) (v .reads) space (omega arith, whole);
+          reads = more-reads P (f .log) (v .reads) (image p bs) (omega arith, whole) space;
           rest =
               rw page-records
-              (all-more P (lay (f .db) (p * P) bs .len) (records P (f .log)) (image p bs)
-              (all-longer P (f .db .len) (lay (f .db) (p * P) bs .len) (omega (arith, dl)) (records P (f .log)) (v .rest)) (p0, p32, whole, omega (arith, dl)));
+              (rest-append P (lay (f .db) (p * P) bs .len) (records P (f .log)) (image p bs ∷ [])
+              (all-longer P (f .db .len) (lay (f .db) (p * P) bs .len) (omega (arith, dl)) (records P (f .log)) (v .rest)) ((p0, p32, whole, omega (arith, dl)), tt));
           agrees = rw page-records (agrees-page P (records P (f .log)) (f .db) p bs (v .db-len) has (v .agrees));
           ids = rw same-statuses (v .ids);
           valid = v .valid;
@@ -274,9 +274,7 @@ module _ (P : ℕ) (big : 36 ≤ P) (f : Files) (frames : ℕ) (table : List Ent
           };
           sorted = v .sorted;
           few = v .few;
-          page =
-              stands-same P big (content (f .db)) (content (lay (f .db) (p * P) bs)) mark
-              (first-kept P (f .db) p bs (v .db-len) has p0 (omega (arith, first, content-length (f .db) (v .db-len)))) (v .page);
+          page = stands-kept P big (f .db) (v .db-len) p bs mark p0 has (v .page);
           small = v .small;
         }
 
@@ -307,7 +305,7 @@ module _ (P : ℕ) (big : 36 ≤ P) (f : Files) (frames : ℕ) (table : List Ent
         marks = rw cr m;
         sorted = v .sorted;
         few = v .few;
-        page = stands-new P big next time w w64 _ (first-written P (f .db) 0 (metaPage P next time w) (v .db-len) fit refl e);
+        page = stands-laid P big (f .db) (v .db-len) next time w w64 d;
         small = w64;
       }
 
@@ -364,6 +362,6 @@ module _ (P : ℕ) (big : 36 ≤ P) (f : Files) (frames : ℕ) (table : List Ent
             (λ u h. absurd (silent id u h)) (λ u h. silent id (Committed u) h) (λ t n u h. absurd (silent t u h)) (v .marks));
         sorted = set-ascending (entry id s) table (v .sorted);
         few = few;
-        page = stands-new P big next time mark (v .small) _ (first-written P (g .db) 0 (metaPage P next time mark) (omega arith) fit refl e);
+        page = stands-laid P big (g .db) (omega arith) next time mark (v .small) (omega arith);
         small = v .small;
       }

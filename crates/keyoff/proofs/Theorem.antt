@@ -17,7 +17,7 @@ key-off P big f frames cs bytes typed opened quiet =
     reopens P big (run P cs w) (run-keeps P big cs w (opened-keeps P f frames bytes opened) quiet typed)
 
 -- with no call between: opening twice
-pub opened-twice : (P : ℕ) → 36 ≤ P → (f : Files) (frames : List ℕ) → BytesIn f → OpenedWithMeta P f frames → Reopens P (opening P f frames .world)
+pub opened-twice : (P : ℕ) → 36 ≤ P → (f : Files) (frames : List ℕ) → BytesIn f → OpenedWithMeta P f (opening P f frames) → Reopens P (opening P f frames .world)
 unfolding run
 opened-twice P big f frames bytes opened = key-off P big f frames [] bytes tt opened tt
 

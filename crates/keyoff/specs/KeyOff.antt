@@ -31,13 +31,13 @@ use Rattle.world.specs.World.{Files, Mem, World}
 use Rattle.world.specs.Calls.{Call, Flush, Advance}
 use Rattle.world.specs.Refusals.{refuses}
 use Rattle.world.specs.Run.{call, run}
-use Rattle.opening.specs.Opening.{replayed, opening}
+use Rattle.opening.specs.Opening.{replayed, Opening, opening}
 
 -- ---- premises
 
--- the files were opened, and after replay page 0 is whole, has the magic, and version 0 or 2
-pub record OpenedWithMeta (P : ℕ) (f : Files) (frames : List ℕ) : Type 0 where
-  pub accepted : opening P f frames .number ≡ 0
+-- the files were opened, o is what came of it, and after replay page 0 is whole, has the magic, and version 0 or 2
+pub record OpenedWithMeta (P : ℕ) (f : Files) (o : Opening) : Type 0 where
+  pub accepted : o .number ≡ 0
   pub meta : hasMeta P (content (replayed P f)) ≡ true
   pub version : goodVersion (version (content (replayed P f))) ≡ true
 
@@ -95,5 +95,5 @@ pub record Reopens (P : ℕ) (w : World) : Type 0 where
 
 abbrev pub KeyOff : ℕ → Type 0
 KeyOff P =
-    (f : Files) (frames : List ℕ) (cs : List Call) → BytesIn f → AllTyped cs → OpenedWithMeta P f frames → NoZeroFlush P cs (opening P f frames .world) →
-    Reopens P (run P cs (opening P f frames .world))
+    (f : Files) (frames : List ℕ) (cs : List Call) → BytesIn f → AllTyped cs → OpenedWithMeta P f (opening P f frames) →
+    NoZeroFlush P cs (opening P f frames .world) → Reopens P (run P cs (opening P f frames .world))

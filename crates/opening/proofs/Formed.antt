@@ -3,72 +3,39 @@
 use mathlib.Core.Path.{_≡_, refl, sym, _∙_}
 use mathlib.Core.List.{List, [], _∷_, _++_, map}
 use mathlib.Core.Bool.{Bool, true, false, cond, _||_}
-use Prim.Native.Nat.{ℕ, zero, suc, _+_, _-_, _*_, _/_, _≤_, _<_}
+use Prim.Native.Nat.{ℕ, _+_, _-_, _/_, _≤_, _<_}
 use native.Mathlib.Omega.{arith}
 use lib.Dec.{eqb, lit<}
 use lib.ListN.{length}
-use borrow.Author.Tests.{ltb-false, leb-false}
-use Rattle.table.proofs.Facts.{orKnown, settledKnown}
+use borrow.Author.Tests.{le-ltb, ltb-false, leb-false}
+use Rattle.table.proofs.Facts.{orKnown, settledKnown, absent-not, no-status, under-largest, largest-under}
 use Rattle.sorted.specs.Sorted.{ascendingBy}
 use Rattle.fields.specs.Files.{File, content, room, header}
 use Rattle.fields.proofs.Tests.{Equal, equal, other, equality, passed, neither}
-use Rattle.fields.proofs.FileLaws.{lay-room, lay-len, header-room, header-len, header-content, fit-means}
+use Rattle.fields.proofs.FileLaws.{header-room, header-len, header-content, fit-means, fit-ok}
 use Rattle.wal.specs.Records.{logMagic, Record, image, begin, commit, abort, checkpoint}
 use Rattle.table.specs.declared.Status.{Status}
-use Rattle.table.specs.declared.Status.the-variants.{Active, Committed, Aborted}
+use Rattle.table.specs.declared.Status.the-variants.{Committed, Aborted}
 use Rattle.table.specs.declared.Entry.{Entry}
 use Rattle.table.specs.declared.Known.{Known}
 use Rattle.table.specs.declared.Known.the-variants.{Is, Absent}
-use Rattle.table.specs.Entries.{idOf, ascending, statusOf}
+use Rattle.table.specs.Entries.{idOf, ascending, statusOf, largestId}
 use Rattle.clog.specs.Slots.{clogMagic, codeOf, slotOf, validClog, openClog, recordAll, loadedStatus, settled}
-use Rattle.clog.proofs.SlotLaws.{slot-magic, settled-room, settled-len, settled-header}
+use Rattle.clog.proofs.SlotLaws.{slot-within, slot-magic, settled-room, settled-len, settled-header}
 use Rattle.clog.proofs.TableLaws.{knownAs, codeOrElse, AllFit, fit-by-status, Recorded, record-all, slots-plain, load-status-plain, settled-entries, open-kept, open-reset, open-room, open-valid, valid-long, valid-same}
 use Rattle.meta.specs.Page.{hasMeta, formatNo}
 use Rattle.frames.specs.Pages as pages
-use Rattle.frames.specs.Pages.{badPage, distinct, anyBad}
+use Rattle.frames.specs.Pages.{distinct, anyBad}
 use Rattle.world.proofs.CallLaws.{both-zero}
 use Rattle.world.specs.World.{Files, World}
-use Rattle.world.specs.Refusals.{anyOf, orElse, badBuffers, frontNo}
+use Rattle.world.specs.Refusals.{anyOf, badBuffers, frontNo}
 use Rattle.world.proofs.FormLaws.{InForm, none-of, form-front}
-use Rattle.opening.specs.Opening.{records, endNo, laidBy, replay, replayed, noted, statuses, logTable, clogTable, fullTable, pastDb, pastClog, openRoomNo, openNo, withMeta, withoutMeta, openedWorld}
+use Rattle.opening.specs.Opening.{records, endNo, replayed, noted, statuses, logTable, clogTable, fullTable, pastDb, pastClog, openRoomNo, numberBy, openNo, withMeta, withoutMeta, openedWorld}
 use Rattle.opening.proofs.Laws.{world-meta}
-use Rattle.opening.proofs.Tables.{lastWord, nothing, other-word, log-ascending, log-word, clog-word, full-ascending, full-word, log-within}
-
--- ---- replay keeps to the buffer
-
-laid-room : (P : ℕ) (r : Record) (db : File) → room (laidBy P r db) ≡ room db
-laid-room P (image page bytes) db = lay-room db (page * P) bytes
-laid-room P (begin id) db = refl
-laid-room P (commit id time) db = refl
-laid-room P (abort id) db = refl
-laid-room P checkpoint db = refl
-
-laid-fits : (P : ℕ) (r : Record) (db : File) → pastDb P (room db) r ≡ false → db .len ≤ room db → laidBy P r db .len ≤ room db
-laid-fits P (image page bytes) db b h =
-    let e : page * P + length bytes ≤ room db = ltb-false _ _ (neither (badPage page) _ b .1) in
-    rw (lay-len db (page * P) bytes) (omega arith)
-laid-fits P (begin id) db b h = h
-laid-fits P (commit id time) db b h = h
-laid-fits P (abort id) db b h = h
-laid-fits P checkpoint db b h = h
-
-pub replay-room : (P : ℕ) (rs : List Record) (db : File) → room (replay P rs db) ≡ room db
-unfolding replay
-replay-room P [] db = refl
-replay-room P (r ∷ rs) db = replay-room P rs (laidBy P r db) ∙ laid-room P r db
-
-pub replay-fits : (P : ℕ) (rs : List Record) (db : File) → anyOf (map (pastDb P (room db)) rs) ≡ false → db .len ≤ room db → replay P rs db .len ≤ room db
-unfolding replay anyOf
-replay-fits P [] db b h = h
-replay-fits P (r ∷ rs) db b h =
-    let e : room (laidBy P r db) ≡ room db = laid-room P r db in
-    let d = neither (pastDb P (room db) r) _ b in
-    rw e at (replay-fits P rs (laidBy P r db) (rw e (d .1)) (rw e (laid-fits P r db (d .0) h)))
+use Rattle.opening.proofs.Replays.{replay-room, replay-fits}
+use Rattle.opening.proofs.Tables.{lastWord, other-word, log-ascending, log-word, clog-word, full-ascending, full-word, full-by-word, log-within}
 
 -- ---- every id that the log's table has fits the clog's buffer
-
-pub absent-not : (k : Known) (s : Status) → k ≡ Absent → k ≡ Is s → ⊥
-absent-not k s p q = let z : _≡_ {A = ℕ} 0 1 = cc in omega arith
 
 noted-fits : (k size : ℕ) (e : Entry) (s : Status) → pastClog size e ≡ false → statusOf k (e ∷ []) ≡ Is s → 8 + k / 4 < size
 noted-fits k size e s b h = go (equality (idOf e) k)
@@ -89,7 +56,7 @@ first-fits k size r l b = go r b
 
     none : anyOf (map (pastClog size) l) ≡ false →
         ((s : Status) → statusOf k [] ≡ Is s → 8 + k / 4 < size) × (anyOf (map (pastClog size) l) ≡ false)
-    none b = ((λ s h. absurd (absent-not _ s (nothing k) h)), b)
+    none b = ((λ s h. absurd (absent-not _ s (no-status k) h)), b)
 
     go : (r : Record) → anyOf (map (pastClog size) (noted r ++ l)) ≡ false →
         ((s : Status) → statusOf k (noted r) ≡ Is s → 8 + k / 4 < size) × (anyOf (map (pastClog size) l) ≡ false)
@@ -99,7 +66,7 @@ first-fits k size r l b = go r b
     go (abort id) b = one _ b
     go checkpoint b = none b
 
-word-fits : (k size : ℕ) (rs : List Record) (s : Status) → anyOf (map (pastClog size) (statuses rs)) ≡ false → lastWord k rs ≡ Is s → 8 + k / 4 < size
+pub word-fits : (k size : ℕ) (rs : List Record) (s : Status) → anyOf (map (pastClog size) (statuses rs)) ≡ false → lastWord k rs ≡ Is s → 8 + k / 4 < size
 unfolding statuses lastWord
 word-fits k size [] s b h = absurd (absent-not _ s refl h)
 word-fits k size (r ∷ rs) s b h =
@@ -115,7 +82,7 @@ settled-is : (w : Known) (s : Status) → settledKnown w ≡ Is s → (t : Statu
 settled-is (Is t) s h = (t, refl)
 settled-is Absent s h = absurd (absent-not _ s refl h)
 
--- ---- what an accepted opening has passed
+-- ---- what an accepted opening has passed, the log's ending aside
 
 pub record Passed (P : ℕ) (f : Files) (frames : List ℕ) : Type 0 where
   pub log-size : room (f .log) ≤ 16777216
@@ -131,38 +98,89 @@ pub record Passed (P : ℕ) (f : Files) (frames : List ℕ) : Type 0 where
   pub clog-room : 8 ≤ room (f .clog)
   pub ids : anyOf (map (pastClog (room (f .clog))) (statuses (records P (f .log)))) ≡ false
   pub entries : length (fullTable P f) ≤ 256
-  pub whole : endNo P (f .log) ≡ 0
+
+-- end is the number of the log's ending
+module _ (P end : ℕ) (f : Files) (frames : List ℕ) where
+  pub by-means : numberBy P end f frames ≡ 0 → Passed P f frames × (end ≡ 0)
+  unfolding openRoomNo badBuffers
+  by-means ok =
+      let a = passed _ 1 _ (lit< tt) ok in
+      let l = fit-means _ _ _ (none-of _ 0 (a .0)) in
+      let d = fit-means _ _ _ (none-of _ 1 (a .0)) in
+      let c = fit-means _ _ _ (none-of _ 2 (a .0)) in
+      let v = both-zero _ _ (a .1) in
+      let r = both-zero _ _ (v .1) in
+      let g = passed _ 4 _ (lit< tt) (r .0) in
+      let i = passed _ 5 _ (lit< tt) (g .1) in
+      let s = passed _ 6 _ (lit< tt) (i .1) in
+      let n = neither _ _ (s .0) in
+      let t = passed _ 7 _ (lit< tt) (s .1) in (
+        record {
+          log-size = l .0;
+          log-len = l .1;
+          db-size = d .0;
+          db-len = d .1;
+          clog-size = c .0;
+          clog-len = c .1;
+          one-frame = ltb-false _ _ (none-of _ 3 (a .0));
+          format = v .0;
+          log-room = ltb-false _ _ (g .0);
+          images = i .0;
+          clog-room = ltb-false _ _ (n .0);
+          ids = n .1;
+          entries = ltb-false _ _ (t .0);
+        },
+        r .1,
+      )
+
+  -- and where it is passed the ending decides
+  pub by-passed : Passed P f frames → numberBy P end f frames ≡ end
+  unfolding openRoomNo badBuffers anyOf
+  by-passed p =
+      rw (
+        fit-ok _ _ _ (p .log-size) (p .log-len),
+        fit-ok _ _ _ (p .db-size) (p .db-len),
+        fit-ok _ _ _ (p .clog-size) (p .clog-len),
+        le-ltb _ _ (p .one-frame),
+        p .format,
+        le-ltb _ _ (p .log-room),
+        p .images,
+        le-ltb _ _ (p .clog-room),
+        p .ids,
+        le-ltb _ _ (p .entries),
+      )
 
 pub no-means : (P : ℕ) (f : Files) (frames : List ℕ) → openNo P f frames ≡ 0 → Passed P f frames
-unfolding openNo openRoomNo badBuffers
-no-means P f frames ok =
-    let a = passed _ 1 _ (lit< tt) ok in
-    let l = fit-means _ _ _ (none-of _ 0 (a .0)) in
-    let d = fit-means _ _ _ (none-of _ 1 (a .0)) in
-    let c = fit-means _ _ _ (none-of _ 2 (a .0)) in
-    let v = both-zero _ _ (a .1) in
-    let r = both-zero _ _ (v .1) in
-    let g = passed _ 4 _ (lit< tt) (r .0) in
-    let i = passed _ 5 _ (lit< tt) (g .1) in
-    let s = passed _ 6 _ (lit< tt) (i .1) in
-    let n = neither _ _ (s .0) in
-    let t = passed _ 7 _ (lit< tt) (s .1) in
-    record {
-      log-size = l .0;
-      log-len = l .1;
-      db-size = d .0;
-      db-len = d .1;
-      clog-size = c .0;
-      clog-len = c .1;
-      one-frame = ltb-false _ _ (none-of _ 3 (a .0));
-      format = v .0;
-      log-room = ltb-false _ _ (g .0);
-      images = i .0;
-      clog-room = ltb-false _ _ (n .0);
-      ids = n .1;
-      entries = ltb-false _ _ (t .0);
-      whole = r .1;
-    }
+unfolding openNo
+no-means P f frames ok = by-means P (endNo P (f .log)) f frames ok .0
+
+-- ---- every id in the table fits the clog's buffer, and is below the next id
+
+module _ (P : ℕ) (f : Files) (frames : List ℕ) (p : Passed P f frames) where
+  -- an id in a valid clog lies within it
+  clog-fits : (t : ℕ) (s : Status) → statusOf t (clogTable (f .clog)) ≡ Is s → 8 + t / 4 < room (f .clog)
+  clog-fits t s h = go (validClog (f .clog)) refl
+    where
+      go : (x : Bool) → validClog (f .clog) ≡ x → 8 + t / 4 < room (f .clog)
+      go false v = absurd (absent-not _ s (clog-word (f .clog) t ∙ rw v) h)
+      go true v =
+          let k : knownAs (slotOf 8 (content (f .clog)) t) ≡ Is s = sym (clog-word (f .clog) t ∙ rw v) ∙ h in
+          omega (arith, slot-within 8 t (f .clog) (λ z. absent-not _ s (rw z) k), p .clog-len)
+
+  pub full-fits : (t : ℕ) (s : Status) → statusOf t (fullTable P f) ≡ Is s → 8 + t / 4 < room (f .clog)
+  full-fits t s h = go (lastWord t (records P (f .log))) refl
+    where
+      go : (w : Known) → lastWord t (records P (f .log)) ≡ w → 8 + t / 4 < room (f .clog)
+      go (Is u) e = word-fits t (room (f .clog)) (records P (f .log)) u (p .ids) e
+      go Absent e = clog-fits t s (sym (rw e at (full-by-word P f t)) ∙ h)
+
+  pub next-above : (t : ℕ) (s : Status) → statusOf t (fullTable P f) ≡ Is s → t < withMeta P f frames .mem .next .0
+  unfolding withMeta
+  next-above t s h =
+      let fit : (k : ℕ) (u : Status) → statusOf k (fullTable P f) ≡ Is u → k < 4194304 = λ k u e. omega (arith, full-fits k u e, p .clog-size) in
+      let a : t ≤ largestId (fullTable P f) = under-largest t (fullTable P f) s h in
+      let b : largestId (fullTable P f) < 4194304 = largest-under 4194304 (fullTable P f) (lit< tt) (full-ascending P f) fit in
+      omega arith
 
 -- ---- the clog, opened and recorded
 
@@ -203,17 +221,16 @@ kept-known c = go (eqb c 0) (eqb c 2)
     go false true = refl
     go false false = refl
 
-module _ (P : ℕ) (f : Files) (frames : List ℕ) (ok : openNo P f frames ≡ 0) where
+module _ (P : ℕ) (f : Files) (frames : List ℕ) (p : Passed P f frames) where
   pub ids-fit : AllFit 8 0 (room (f .clog)) (logTable P (f .log))
   ids-fit =
       fit-by-status 8 0 (room (f .clog)) (logTable P (f .log)) (log-ascending P (f .log)) (λ id s h.
       let w = settled-is (lastWord id (records P (f .log))) s (sym (log-word P (f .log) id) ∙ h) in
       let e : id - 0 ≡ id = omega arith in
-      (omega arith, rw e (word-fits id (room (f .clog)) (records P (f .log)) (w .0) (no-means P f frames ok .ids) (w .1))))
+      (omega arith, rw e (word-fits id (room (f .clog)) (records P (f .log)) (w .0) (p .ids) (w .1))))
 
   left : Recorded 8 0 (logTable P (f .log)) (settled 8 (openClog (f .clog))) (recordAll 8 0 (logTable P (f .log)) (settled 8 (openClog (f .clog))))
   left =
-      let p = no-means P f frames ok in
       let o = open-fits (f .clog) (p .clog-len) (p .clog-room) in
       let r : room (settled 8 (openClog (f .clog))) ≡ room (f .clog) = settled-room 8 (openClog (f .clog)) ∙ open-room (f .clog) in
       let n = settled-len 8 (openClog (f .clog)) in
@@ -231,7 +248,6 @@ module _ (P : ℕ) (f : Files) (frames : List ℕ) (ok : openNo P f frames ≡ 0
   db-left : (room (replayed P f) ≡ room (f .db)) × (replayed P f .len ≤ room (f .db))
   unfolding replayed
   db-left =
-      let p = no-means P f frames ok in
       (replay-room P (records P (f .log)) (f .db), replay-fits P (records P (f .log)) (f .db) (p .images) (p .db-len))
 
   -- a clog file that fits, and a table, make a world in form
@@ -241,7 +257,6 @@ module _ (P : ℕ) (f : Files) (frames : List ℕ) (ok : openNo P f frames ≡ 0
       length table ≤ 256 → ascending table ≡ true → InForm P w
   unfolding ascendingBy distinct anyBad
   formed clog table w e h m r c l n t =
-      let p = no-means P f frames ok in
       record {
         log-size = rw (e, log-left .1) (p .log-size);
         log-len = rw (e, log-left .0, log-left .1) (p .log-room);
@@ -269,13 +284,11 @@ module _ (P : ℕ) (f : Files) (frames : List ℕ) (ok : openNo P f frames ≡ 0
     where
       go : (x : Bool) → InForm P (cond x (withMeta P f frames) (withoutMeta P f frames))
       go true =
-          let p = no-means P f frames ok in
           let o = open-fits (f .clog) (p .clog-len) (p .clog-room) in
           let r : room (settled 8 (openClog (f .clog))) ≡ room (f .clog) = settled-room 8 (openClog (f .clog)) ∙ open-room (f .clog) in
           formed _ (fullTable P f) (withMeta P f frames) refl refl (refl, refl, refl) (left .size ∙ r) (left .fits)
           (omega (arith, left .longer, settled-len 8 (openClog (f .clog)), o .1)) (p .entries) (full-ascending P f)
       go false =
-          let p = no-means P f frames ok in
           formed _ (logTable P (f .log)) (withoutMeta P f frames) refl refl (refl, refl, refl) (clog-reset .1)
           (omega (arith, clog-reset .0, clog-reset .1, p .clog-room)) (omega (arith, clog-reset .0)) (omega (arith, p .entries, log-within P f)) (log-ascending P (f .log))
 
@@ -287,7 +300,6 @@ module _ (P : ℕ) (f : Files) (frames : List ℕ) (ok : openNo P f frames ≡ 0
 
   pub left-valid : validClog (recordAll 8 0 (logTable P (f .log)) (settled 8 (openClog (f .clog)))) ≡ true
   left-valid =
-      let p = no-means P f frames ok in
       let o = open-fits (f .clog) (p .clog-len) (p .clog-room) in
       valid-same (settled 8 (openClog (f .clog))) _ (left .front)
       ∙ valid-same (openClog (f .clog)) (settled 8 (openClog (f .clog))) (settled-header 8 (openClog (f .clog)) (o .0) (o .1))
@@ -295,7 +307,6 @@ module _ (P : ℕ) (f : Files) (frames : List ℕ) (ok : openNo P f frames ≡ 0
 
   settled-known : (k : ℕ) → knownAs (slotOf 8 (content (settled 8 (openClog (f .clog)))) k) ≡ knownAs (slotOf 8 (content (openClog (f .clog))) k)
   settled-known k =
-      let p = no-means P f frames ok in
       let o = open-fits (f .clog) (p .clog-len) (p .clog-room) in
       sym (load-status-plain 8 (content (settled 8 (openClog (f .clog)))) k)
       ∙ rw (settled-entries 8 (openClog (f .clog)) (o .0) (o .1) 0) (load-status-plain 8 (content (openClog (f .clog))) k)
@@ -305,7 +316,7 @@ module _ (P : ℕ) (f : Files) (frames : List ℕ) (ok : openNo P f frames ≡ 0
   unfolding withMeta
   clog-agrees h k = rw (world-meta P f frames h) (
       clog-word (withMeta P f frames .files .clog) k
-      ∙ rw (left-valid, slots-plain 8 _ _ _ left k, full-word P f k, open-word (f .clog) (no-means P f frames ok .clog-room) k)
+      ∙ rw (left-valid, slots-plain 8 _ _ _ left k, full-word P f k, open-word (f .clog) (p .clog-room) k)
       (go (statusOf k (logTable P (f .log)))))
     where
       go : (w : Known) → knownAs (codeOrElse w (slotOf 8 (content (settled 8 (openClog (f .clog)))) k))

@@ -1,11 +1,10 @@
 -- Laws of the tables of an opening, over the page size P: the log's is the last word of its records on each id, Active become Aborted; a valid clog's is its
 -- slots; and the table of a store that was opened with a meta page is exactly the clog's with the log's laid over it. Assumes nothing.
 use mathlib.Core.Path.{_≡_, refl, sym, _∙_, subst}
-use mathlib.Core.List.{List, [], _∷_, _++_}
+use mathlib.Core.List.{List, [], _∷_, _++_, append-nil, append-assoc}
 use mathlib.Core.Bool.{Bool, true, false, cond}
 use Prim.Native.Nat.{ℕ, _≤_}
 use lib.ListN.{length}
-use borrow.Author.Tests.{eq-eqb, ne-eqb}
 use Rattle.sorted.specs.Sorted.{lookBy, insertAllBy, ascendingBy}
 use Rattle.fields.specs.Files.{File, content}
 use Rattle.fields.proofs.Tests.{Equal, equal, other, equality}
@@ -15,14 +14,14 @@ use Rattle.table.specs.declared.Entry.{Entry}
 use Rattle.table.specs.declared.Known.{Known}
 use Rattle.table.specs.declared.Known.the-variants.{Is, Absent}
 use Rattle.table.specs.Entries.{idOf, insertEntry, insertAll, ascending, statusOf}
-use Rattle.table.proofs.Facts.{status-set, status-kept, over-ascending, over-grows, over-status, settle-ascending, settle-status, settle-unfound, orKnown, settledKnown, or-known}
+use Rattle.table.proofs.Facts.{status-set, status-kept, over-ascending, over-grows, over-status, settle-ascending, settle-status, settle-unfound, orKnown, settledKnown, or-known, or-absent, no-status, own-status, past-status}
 use Rattle.clog.specs.Slots.{slotOf, validClog, entriesIn}
 use Rattle.clog.proofs.TableLaws.{knownAs, load-ascending, load-status-plain}
 use Rattle.meta.specs.Page.{hasMeta}
 use Rattle.world.specs.World.{Files}
 use Rattle.opening.specs.Opening.{records, replayed, noted, statuses, logTable, clogTable, fullTable, openNo, withMeta, withoutMeta, opening}
 use Rattle.opening.proofs.Laws.{accepted, world-meta, world-plain}
-use Rattle.opening.proofs.Covers.{over-covers}
+use Rattle.sorted.proofs.Covers.{over-covers}
 
 -- ---- the log's table
 
@@ -31,30 +30,41 @@ unfoldable pub lastWord : ℕ → List Record → Known
 lastWord k [] = Absent
 lastWord k (r ∷ rs) = orKnown (lastWord k rs) (statusOf k (noted r))
 
-or-absent : (a : Known) → orKnown a Absent ≡ a
-or-absent (Is s) = refl
-or-absent Absent = refl
-
-pub nothing : (k : ℕ) → statusOf k [] ≡ Absent
-unfolding statusOf lookBy
-nothing k = refl
-
--- what one entry says: its own word, and nothing of another id
-own-word : (e : Entry) → statusOf (idOf e) (e ∷ []) ≡ Is (e .status)
-unfolding statusOf lookBy
-own-word e = rw (eq-eqb (idOf e) (idOf e) refl)
-
+-- what one entry says of another id
 pub other-word : (k : ℕ) (e : Entry) → (idOf e ≡ k → ⊥) → statusOf k (e ∷ []) ≡ Absent
-unfolding statusOf lookBy
-other-word k e n = rw (ne-eqb (idOf e) k n)
+other-word k e n = past-status k e [] n ∙ no-status k
 
--- set in a table it says that, and else what the table said
+-- records one after another
+pub word-append : (k : ℕ) (rs ss : List Record) → lastWord k (rs ++ ss) ≡ orKnown (lastWord k ss) (lastWord k rs)
+unfolding lastWord
+word-append k [] ss = sym (or-absent (lastWord k ss))
+word-append k (r ∷ rs) ss = rw (word-append k rs ss) (or-known (lastWord k ss) (lastWord k rs) (statusOf k (noted r)))
+
+pub statuses-append : (rs ss : List Record) → statuses (rs ++ ss) ≡ statuses rs ++ statuses ss
+unfolding statuses
+statuses-append [] ss = refl
+statuses-append (r ∷ rs) ss = rw (statuses-append rs ss) (sym (append-assoc (noted r) (statuses rs) (statuses ss)))
+
+-- one more record: it has the last word
+pub word-more : (k : ℕ) (rs : List Record) (r : Record) → lastWord k (rs ++ (r ∷ [])) ≡ orKnown (statusOf k (noted r)) (lastWord k rs)
+unfolding lastWord
+word-more k rs r = word-append k rs (r ∷ [])
+
+pub statuses-more : (rs : List Record) (r : Record) → statuses (rs ++ (r ∷ [])) ≡ statuses rs ++ noted r
+unfolding statuses
+statuses-more rs r = statuses-append rs (r ∷ []) ∙ rw append-nil
+
+pub word-none : (k : ℕ) → lastWord k [] ≡ Absent
+unfolding lastWord
+word-none k = refl
+
+-- set in a table it says its own word, and else what the table said
 one-word : (k : ℕ) (e : Entry) (l : List Entry) → statusOf k (insertEntry e l) ≡ orKnown (statusOf k (e ∷ [])) (statusOf k l)
 one-word k e l = go (equality (idOf e) k)
   where
     go : Equal (idOf e) k → statusOf k (insertEntry e l) ≡ orKnown (statusOf k (e ∷ [])) (statusOf k l)
     go (equal p) =
-        subst (λ (j : ℕ). statusOf j (insertEntry e l) ≡ orKnown (statusOf j (e ∷ [])) (statusOf j l)) p (status-set e l ∙ rw (own-word e))
+        subst (λ (j : ℕ). statusOf j (insertEntry e l) ≡ orKnown (statusOf j (e ∷ [])) (statusOf j l)) p (status-set e l ∙ rw (own-status e []))
     go (other n) = status-kept e l k n ∙ rw (other-word k e n)
 
 -- records one after the other: the last word stands, and else what the table said
@@ -69,7 +79,7 @@ more-words k r rs ih l = go r
     set e = ih (insertEntry e l) ∙ rw (one-word k e l) (sym (or-known (lastWord k rs) (statusOf k (e ∷ [])) (statusOf k l)))
 
     same : statusOf k (insertAll (statuses rs) l) ≡ orKnown (orKnown (lastWord k rs) (statusOf k [])) (statusOf k l)
-    same = ih l ∙ rw (nothing k, or-absent (lastWord k rs))
+    same = ih l ∙ rw (no-status k, or-absent (lastWord k rs))
 
     go : (r : Record) → statusOf k (insertAll (noted r ++ statuses rs) l) ≡ orKnown (orKnown (lastWord k rs) (statusOf k (noted r))) (statusOf k l)
     go (image page bytes) = same
@@ -92,7 +102,7 @@ module _ (P : ℕ) (log : File) where
   unfolding logTable Words
   log-word k =
       let e : statusOf k (insertAll (statuses (records P log)) []) ≡ orKnown (lastWord k (records P log)) (statusOf k []) = words k (records P log) [] in
-      settle-status k (insertAll (statuses (records P log)) []) ∙ rw (e, nothing k, or-absent (lastWord k (records P log)))
+      settle-status k (insertAll (statuses (records P log)) []) ∙ rw (e, no-status k, or-absent (lastWord k (records P log)))
 
   -- no entry of it is Active
   pub log-settled : (k : ℕ) → statusOf k (logTable P log) ≡ Is Active → ⊥
@@ -137,6 +147,10 @@ module _ (P : ℕ) (f : Files) where
   pub full-word : (k : ℕ) → statusOf k (fullTable P f) ≡ orKnown (statusOf k (logTable P (f .log))) (statusOf k (clogTable (f .clog)))
   unfolding fullTable
   full-word k = over-status (logTable P (f .log)) (clogTable (f .clog)) k (log-ascending P (f .log))
+
+  -- the same by the log's records
+  pub full-by-word : (t : ℕ) → statusOf t (fullTable P f) ≡ orKnown (settledKnown (lastWord t (records P (f .log)))) (statusOf t (clogTable (f .clog)))
+  full-by-word t = full-word t ∙ rw (log-word P (f .log) t)
 
   -- no longer than both together: where one of them passes a limit, so does the whole
   pub log-within : length (logTable P (f .log)) ≤ length (fullTable P f)

@@ -29,29 +29,31 @@ use lib.ListN.{length}
 use lib.Dec.{ltb, leb, eqb}
 use Rattle.fields.specs.Files.{File, content, room, lay, header}
 use Rattle.fields.specs.Answers.{Told}
-use Rattle.wal.specs.Records.{logMagic, Record, image, begin, commit, abort, checkpoint, endingNo, recordsIn, logOf}
+use Rattle.wal.specs.Records.{logMagic, Record, image, begin, commit, abort, checkpoint, Ending, endingNo, recordsIn, logOf}
 use Rattle.table.specs.declared.Status.the-variants.{Active, Committed, Aborted}
 use Rattle.table.specs.declared.Entry.{Entry}
-use Rattle.table.specs.Entries.{emptyTable, idOf, insertAll, activeToAborted, largestId, largestTime, next64}
+use Rattle.table.specs.Entries.{idOf, insertAll, activeToAborted, largestId, largestTime, next64}
 use Rattle.clog.specs.Slots.{clogMagic, validClog, openClog, recordAll, entriesIn, settled}
 use Rattle.meta.specs.Page.{hasMeta, storedNext, storedTime, storedMark, formatNo}
-use Rattle.frames.specs.Pages.{badPage, emptyFrames, emptyTouched}
+use Rattle.frames.specs.Pages.{badPage}
 use Rattle.world.specs.declared.Lens.{Lens}
 use Rattle.world.specs.declared.Slot.the-variants.{Empty}
 use Rattle.world.specs.World.{Files, filesOf, Mem, World}
 use Rattle.world.specs.Steps.{withDb}
 use Rattle.world.specs.Refusals.{anyOf, orElse, badBuffers}
 use Rattle.world.specs.Run.{decided}
-use Rattle.form.specs.declared.Store.{Store}
 use Rattle.form.specs.Store.{noStore, laidStore, ending, Given, given}
 use Rattle.opening.specs.declared.Verdict.{Verdict}
 use Rattle.opening.specs.declared.Verdict.the-variants.{Accepted, Refused, Torn, Unknown}
 use Rattle.opening.specs.declared.Opened.{Opened}
 
--- ---- the log: the records before the first bad one, and the number of its ending: 0 its last byte, 2 or 3 a bad record
+-- ---- the log: the records before the first bad one, how it ends, and the number of that: 0 its last byte, 2 or 3 a bad record
 
 abbrev pub records : ℕ → File → List Record
 records P log = recordsIn (logOf P (content log) .found)
+
+abbrev pub endOf : ℕ → File → Ending
+endOf P log = logOf P (content log) .ending
 
 abbrev pub endNo : ℕ → File → ℕ
 endNo P log = endingNo (logOf P (content log) .ending)
@@ -117,8 +119,12 @@ openRoomNo P f =
     (cond (ltb (room (f .clog)) 8 || anyOf (map (pastClog (room (f .clog))) (statuses (records P (f .log))))) 6
     (cond (ltb 256 (length (fullTable P f))) 7 0)))
 
+-- end is the number of the log's ending
+abbrev pub numberBy : ℕ → ℕ → Files → List ℕ → ℕ
+numberBy P end f frames = cond (badBuffers P f frames) 1 (orElse (formatNo P (f .db)) (orElse (openRoomNo P f) end))
+
 unfoldable pub openNo : ℕ → Files → List ℕ → ℕ
-openNo P f frames = cond (badBuffers P f frames) 1 (orElse (formatNo P (f .db)) (orElse (openRoomNo P f) (endNo P (f .log))))
+openNo P f frames = numberBy P (endNo P (f .log)) f frames
 
 -- ---- the world after an accepted opening
 
@@ -187,11 +193,14 @@ pub record Opening : Type 0 where
   pub db : ℕ
   pub world : World
 
-unfoldable pub opening : ℕ → Files → List ℕ → Opening
-opening P f frames =
-    let n = openNo P f frames in
+-- an opening with the number n
+abbrev pub openedBy : ℕ → ℕ → Files → List ℕ → Opening
+openedBy P n f frames =
     let w = decided n (openedWorld P f frames) (unopened (leftBy P n f) frames) in
     record { number = n; db = w .files .db .len; world = w }
+
+unfoldable pub opening : ℕ → Files → List ℕ → Opening
+opening P f frames = openedBy P (openNo P f frames) f frames
 
 -- ---- the same for the code's store
 

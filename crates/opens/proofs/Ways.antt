@@ -33,7 +33,8 @@ use Rattle.opening.specs.declared.Verdict.the-variants.{Accepted, Refused, Torn
 use Rattle.opening.specs.Opening.{records, replayed, logTable, fullTable, openNo, logTime, withMeta, withoutMeta, hasLaid, openedAs, opened}
 use Rattle.opening.proofs.Laws.{world-meta, world-plain, opened-refused, opened-torn, opened-unknown, opened-accepted}
 use Rattle.opening.proofs.Tables.{clog-within}
-use Rattle.opening.proofs.Formed.{no-means, replay-room, replay-fits, ids-fit}
+use Rattle.opening.proofs.Replays.{replay-room, replay-fits}
+use Rattle.opening.proofs.Formed.{no-means, ids-fit}
 use Rattle.scan.specs.declared.Surveyed.{Surveyed}
 use Rattle.scan.specs.Surveys.{surveyed}
 use Rattle.scan.proofs.Surveys.{clog-fits}
@@ -139,7 +140,7 @@ module _ (P : ℕ) (lens : Lens) (log db clog frames : List ℕ) where
           clog-fits P f frames (not-bad (λ h. omega arith)),
           p .clog-room,
           omega (arith, p .entries, clog-within P f),
-          rw l (none-past (length clog) (logTable P (fileOf log (lens .log))) (ids-fit P f frames ok)),
+          rw l (none-past (length clog) (logTable P (fileOf log (lens .log))) (ids-fit P f frames p)),
         )
 
     -- the log is cut back to its magic

@@ -18,7 +18,7 @@ use Rattle.wal.proofs.ParseLaws.{decode-front, parse-none, parse-bad, parse-sho
 use Rattle.wal.proofs.ReadLaws.{Turn, stops, breaks, fails, goes, turn}
 use Rattle.opening.specs.Opening.{laidBy, replay}
 use Rattle.scan.specs.Scans.{nextOf}
-use Rattle.scan.proofs.Sizes.{Sized, all-sized}
+use Rattle.wal.proofs.Sizes.{Sized, all-sized}
 use Rattle.scan.proofs.Turns.{rest-none}
 use Rattle.replay.specs.Replay.{laidFrom}
 use Rattle.replay.specs.Inside.{recordPage, readPage, laidPage}

@@ -1,5 +1,4 @@
 -- The laws of the crate's definitions, which callers' proofs cite.
-pub mod Sizes
 pub mod Held
 pub mod Turns
 pub mod Surveys

@@ -28,7 +28,7 @@ use Rattle.opening.proofs.Laws.{or-zero}
 use Rattle.scan.specs.declared.Scanned.{Scanned}
 use Rattle.scan.specs.Scans.{nothing, found, scanned, nextOf}
 use Rattle.scan.specs.Inside.{imagePast, withImage, withStatus, withRecord, withRead}
-use Rattle.scan.proofs.Sizes.{Sized, all-sized}
+use Rattle.wal.proofs.Sizes.{Sized, all-sized}
 use Rattle.scan.proofs.Held.{holdAll, hold-all, hold-none}
 
 -- ---- an image's room

@@ -1,15 +1,15 @@
 -- One store: what its function leaves is what the store does, and what it leaves of the room. P is the page size. Assumes nothing.
 use mathlib.Core.Path.{_≡_, refl, sym, ap, _∙_}
-use mathlib.Core.List.{List, [], _∷_, _++_}
-use mathlib.Core.Bool.{Bool, true, false, cond}
-use Prim.Native.Nat.{ℕ, zero, suc, _+_, _-_, _*_, _/_, _%_, _≤_, _<_, max}
+use mathlib.Core.List.{List, [], _∷_}
+use mathlib.Core.Bool.{false, cond}
+use Prim.Native.Nat.{ℕ, _+_, _-_, _*_, _/_, _%_, _≤_, _<_, max}
 use native.Mathlib.Omega.{arith}
 use borrow.Author.Tests.{le-ltb, lt-leb}
 use lib.Dec.{ltb, leb}
 use lib.ListN.{length, take, drop, getD, replicate}
 use lib.Seq.{sets, length-sets}
 use Rattle.fields.specs.declared.Answer.{Answer}
-use Rattle.fields.specs.declared.Answer.the-variants.{Accepted, Refused}
+use Rattle.fields.specs.declared.Answer.the-variants.{Accepted}
 use Rattle.fields.specs.Bytes.{part}
 use Rattle.fields.specs.Files.{File, fileOf, room, lay, append, header, unfit}
 use Rattle.fields.specs.Answers.{lengthOf, outcome, decided}
@@ -20,14 +20,14 @@ use Rattle.wal.specs.Records.{Record, image, encode, logMagic}
 use Rattle.wal.specs.Writing.{badPage, appendNo, appendedBytes, appended, truncateNo, truncated}
 use Rattle.wal.proofs.WriteLaws.{append-0, page-size}
 use Rattle.table.specs.declared.Status.{Status}
-use Rattle.clog.specs.Slots.{codeOf, withBits, setSlot, clearSlots, cleared}
+use Rattle.clog.specs.Slots.{clogMagic, codeOf, withBits, setSlot, clearSlots, cleared}
 use Rattle.clog.specs.Calls as clog
 use Rattle.clog.specs.Calls.{recordNo, compactNo, recorded, compacted}
 use Rattle.clog.proofs.Refusals as clog-laws
 use Rattle.clog.proofs.Theorems.{recorded-plain, compacted-plain}
 use Rattle.world.specs.World.{Files, filesOf}
 use Rattle.world.specs.Steps as world
-use Rattle.world.specs.Steps.{apply, withLog, withDb, withClog, logBytes, dbEnd, clogEnd, sumOf, mostOf}
+use Rattle.world.specs.Steps.{apply, withLog, withDb, withClog, logBytes, clogEnd, sumOf, mostOf}
 use Rattle.stores.specs.Inside.{Enough}
 
 -- ---- a call on one file that is accepted
@@ -136,7 +136,7 @@ record Next (f g : Files) (s : world.Step) : Type 0 where
 
 module _ (P : ℕ) (f : Files) where
   apply-next : (s : world.Step) → Enough P (s ∷ []) f → Next f (apply P s f) s
-  unfolding apply setSlot clearSlots mostOf logMagic
+  unfolding apply setSlot clearSlots mostOf logMagic clogMagic
   apply-next (world.Log r) e =
       record {
         logHeader = omega (arith, lay-len (f .log) (f .log .len) (encode r), e .logHeader);
@@ -189,6 +189,16 @@ module _ (P : ℕ) (f : Files) where
         clogHeader = e .clogHeader;
         clogLen = e .clogLen;
         clogRoom = refl;
+      }
+  apply-next world.Reset e =
+      record {
+        logHeader = e .logHeader;
+        logGrown = omega arith;
+        logRoom = refl;
+        dbRoom = refl;
+        clogHeader = omega (arith, header-len clogMagic (f .clog));
+        clogLen = omega (arith, header-len clogMagic (f .clog), e .clogFits);
+        clogRoom = header-room clogMagic (f .clog);
       }
 
   -- room for stores is room for the first, and leaves room for the others once it is carried out

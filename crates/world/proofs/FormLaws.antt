@@ -1,6 +1,6 @@
 -- A store in form: what every call tests first, said in numbers. Assumes nothing.
 use mathlib.Core.Path.{_≡_, refl}
-use mathlib.Core.List.{List, [], _∷_}
+use mathlib.Core.List.{List, [], _∷_, _++_}
 use mathlib.Core.Bool.{Bool, true, false, not}
 use Prim.Native.Nat.{ℕ, zero, suc, _≤_}
 use borrow.Author.Tests.{ltb-false, le-ltb, not-false}
@@ -41,6 +41,12 @@ unfolding anyOf
 none-of [] i h = refl
 none-of (b ∷ bs) zero h = neither b (anyOf bs) h .0
 none-of (b ∷ bs) (suc i) h = none-of bs i (neither b (anyOf bs) h .1)
+
+-- and in two lists one after another
+pub none-more : (bs cs : List Bool) → anyOf bs ≡ false → anyOf cs ≡ false → anyOf (bs ++ cs) ≡ false
+unfolding anyOf
+none-more [] cs h k = k
+none-more (b ∷ bs) cs h k = let d = neither b (anyOf bs) h in rw (d .0) (none-more bs cs (d .1) k)
 
 buffers-good : (P : ℕ) (w : World) → badBuffers P (w .files) (w .frames) ≡ false →
     (unfit 16777216 (room (w .files .log)) (w .files .log .len) ≡ false) × (unfit 16777216 (room (w .files .db)) (w .files .db .len) ≡ false) × (unfit 1048576 (room (w .files .clog)) (w .files .clog .len) ≡ false) × (ltb (length (w .frames)) P ≡ false)
