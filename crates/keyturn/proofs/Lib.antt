@@ -1,0 +1,21 @@
+-- The proof, in the order in which it is built: Theorem has its end, Premises a run that meets what it asks, Vectors and Orders what is lost without.
+pub mod Logs
+pub mod Clogs
+pub mod Dbs
+pub mod Asked
+pub mod Mid
+pub mod Parts
+pub mod Build
+pub mod Adds
+pub mod Walk
+pub mod Short
+pub mod Long
+pub mod Commits
+pub mod Backs
+pub mod Times
+pub mod Said
+pub mod Theorem
+pub mod Runs
+pub mod Premises
+pub mod Vectors
+pub mod Orders
