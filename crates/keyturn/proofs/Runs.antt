@@ -58,19 +58,24 @@ saying n s b t = record { number = n; status = s; byte = b; tail = t }
 
 -- stores cut at (k, pos), in the world that the call finds
 unfoldable pub cutOpen : ℕ → World → List Step → ℕ → ℕ → Told
-unfolding leOf bytesOf starts part lay header unfit insertBy insertAllBy ascendingBy logMagic encode bodyOf recordOf decode parse recordsIn startOf logOf largestBy clogMagic bitsOf withBits highBits validClog openClog setSlot recordAll cleared clearSlots codes loadedStatus entryOf entriesFrom entriesIn settledCode settledByte settled metaMagic metaPage hasMeta goodVersion formatNo isIn slotOf distinct anyBad withPage frameCount pageOf apply applyAll sumOf mostOf heldPage seat write revert keep held catalogPages dataPages committed rolledBack advanced images writes flushSteps commitSteps dataSteps backSteps rollbackSteps advanceSteps steps flushKeeps commitKeeps rollbackKeeps advanceKeeps keeps anyOf badBuffers badTable badTouched badFrames badStore frontNo argumentNo roomNo holdNo callNo refuses done call run replay replayed statuses logTable clogTable fullTable openRoomNo openNo logTime withMeta withoutMeta openedWorld leftBy opening statusOf lookBy spanBelow laidTo clearedTo points stopped applyTo cutAll tornNo openingTorn tornMet
+unfolding ran statusOf lookBy spanBelow laidTo clearedTo points stopped applyTo cutAll tornNo openingTorn tornMet
 cutOpen id w ss k pos =
     let f = cutAll 64 k pos ss (w .files) in
     let o = openingTorn 64 f (w .frames) in
     saying (o .number) (statusOf id (o .world .mem .table)) (getD (content (o .world .files .db)) 128 0) (tornMet 64 f (w .frames))
 
+-- the next commit time after it
+unfoldable pub timeAfter : World → List Step → ℕ → ℕ → ℕ
+unfolding cutOpen
+timeAfter w ss k pos = openingTorn 64 (cutAll 64 k pos ss (w .files)) (w .frames) .world .mem .time .0
+
 -- the stores of a call, and how many points each has
 unfoldable pub storesOf : World → Call → List Step
-unfolding leOf bytesOf starts part lay header unfit insertBy insertAllBy ascendingBy logMagic encode bodyOf recordOf decode parse recordsIn startOf logOf largestBy clogMagic bitsOf withBits highBits validClog openClog setSlot recordAll cleared clearSlots codes loadedStatus entryOf entriesFrom entriesIn settledCode settledByte settled metaMagic metaPage hasMeta goodVersion formatNo isIn slotOf distinct anyBad withPage frameCount pageOf apply applyAll sumOf mostOf heldPage seat write revert keep held catalogPages dataPages committed rolledBack advanced images writes flushSteps commitSteps dataSteps backSteps rollbackSteps advanceSteps steps flushKeeps commitKeeps rollbackKeeps advanceKeeps keeps anyOf badBuffers badTable badTouched badFrames badStore frontNo argumentNo roomNo holdNo callNo refuses done call run replay replayed statuses logTable clogTable fullTable openRoomNo openNo logTime withMeta withoutMeta openedWorld leftBy opening
+unfolding ran
 storesOf w c = steps 64 c w
 
 unfoldable pub pointsOf : World → Call → List ℕ
-unfolding leOf bytesOf starts part lay header unfit insertBy insertAllBy ascendingBy logMagic encode bodyOf recordOf decode parse recordsIn startOf logOf largestBy clogMagic bitsOf withBits highBits validClog openClog setSlot recordAll cleared clearSlots codes loadedStatus entryOf entriesFrom entriesIn settledCode settledByte settled metaMagic metaPage hasMeta goodVersion formatNo isIn slotOf distinct anyBad withPage frameCount pageOf apply applyAll sumOf mostOf heldPage seat write revert keep held catalogPages dataPages committed rolledBack advanced images writes flushSteps commitSteps dataSteps backSteps rollbackSteps advanceSteps steps flushKeeps commitKeeps rollbackKeeps advanceKeeps keeps anyOf badBuffers badTable badTouched badFrames badStore frontNo argumentNo roomNo holdNo callNo refuses done call run replay replayed statuses logTable clogTable fullTable openRoomNo openNo logTime withMeta withoutMeta openedWorld leftBy opening spanBelow points
+unfolding ran spanBelow points
 pointsOf w c = go (steps 64 c w) (w .files)
   where
     go : List Step → Files → List ℕ
@@ -79,7 +84,7 @@ pointsOf w c = go (steps 64 c w) (w .files)
 
 -- stores cut at (k, pos) on files with pages of 576 bytes, which have two sectors: the number of the opening after it, and the first byte of each sector of page 1
 unfoldable pub twoSectors : Files → List Step → ℕ → ℕ → List ℕ
-unfolding leOf bytesOf starts part lay header unfit insertBy insertAllBy ascendingBy logMagic encode bodyOf recordOf decode parse recordsIn startOf logOf largestBy clogMagic bitsOf withBits highBits validClog openClog setSlot recordAll cleared clearSlots codes loadedStatus entryOf entriesFrom entriesIn settledCode settledByte settled metaMagic metaPage hasMeta goodVersion formatNo isIn slotOf distinct anyBad withPage frameCount pageOf apply applyAll sumOf mostOf heldPage seat write revert keep held catalogPages dataPages committed rolledBack advanced images writes flushSteps commitSteps dataSteps backSteps rollbackSteps advanceSteps steps flushKeeps commitKeeps rollbackKeeps advanceKeeps keeps anyOf badBuffers badTable badTouched badFrames badStore frontNo argumentNo roomNo holdNo callNo refuses done call run replay replayed statuses logTable clogTable fullTable openRoomNo openNo logTime withMeta withoutMeta openedWorld leftBy opening statusOf lookBy spanBelow laidTo clearedTo points stopped applyTo cutAll tornNo openingTorn tornMet
+unfolding ran statusOf lookBy spanBelow laidTo clearedTo points stopped applyTo cutAll tornNo openingTorn tornMet
 twoSectors f ss k pos =
     let o = openingTorn 576 (cutAll 576 k pos ss f) (replicate 576 0) in
     let db = content (o .world .files .db) in
@@ -87,5 +92,5 @@ twoSectors f ss k pos =
 
 -- the number of an opening in the old mode
 unfoldable pub oldOpen : Files → ℕ
-unfolding leOf bytesOf starts part lay header unfit insertBy insertAllBy ascendingBy logMagic encode bodyOf recordOf decode parse recordsIn startOf logOf largestBy clogMagic bitsOf withBits highBits validClog openClog setSlot recordAll cleared clearSlots codes loadedStatus entryOf entriesFrom entriesIn settledCode settledByte settled metaMagic metaPage hasMeta goodVersion formatNo isIn slotOf distinct anyBad withPage frameCount pageOf apply applyAll sumOf mostOf heldPage seat write revert keep held catalogPages dataPages committed rolledBack advanced images writes flushSteps commitSteps dataSteps backSteps rollbackSteps advanceSteps steps flushKeeps commitKeeps rollbackKeeps advanceKeeps keeps anyOf badBuffers badTable badTouched badFrames badStore frontNo argumentNo roomNo holdNo callNo refuses done call run replay replayed statuses logTable clogTable fullTable openRoomNo openNo logTime withMeta withoutMeta openedWorld leftBy opening
+unfolding ran
 oldOpen f = opening 64 f frames .number

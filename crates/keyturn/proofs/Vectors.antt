@@ -12,7 +12,7 @@ use Rattle.meta.specs.Page.{metaMagic, metaPage}
 use Rattle.world.specs.World.{World}
 use Rattle.world.specs.Calls.{Call, Install, Begin, Write, Flush, Commit, Advance}
 use Rattle.torn.specs.Torn.{unmet, met}
-use Rattle.keyturn.proofs.Runs.{tid, at, small, ran, Told, saying, cutOpen, storesOf, pointsOf}
+use Rattle.keyturn.proofs.Runs.{tid, at, small, ran, Told, saying, cutOpen, timeAfter, storesOf, pointsOf}
 
 -- a call cut at (k, pos)
 cutCall : ℕ → World → Call → ℕ → ℕ → Told
@@ -113,3 +113,8 @@ without :
     ∷ []
 unfolding cutCall cutOpen storesOf ran logMagic clogMagic metaMagic metaPage bytesOf
 without = refl
+
+-- not claimed: the commit at time 2, cut with the log's length 0, counts (above), and the next commit time is 2 once more; when page 0 is written it is 3
+time-again : timeAfter open5 (storesOf open5 Commit) 6 1 ∷ timeAfter open5 (storesOf open5 Commit) 7 1 ∷ [] ≡ 2 ∷ 3 ∷ []
+unfolding timeAfter storesOf ran logMagic clogMagic metaMagic metaPage bytesOf
+time-again = refl
