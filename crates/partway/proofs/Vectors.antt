@@ -85,13 +85,16 @@ restored : applyTo 64 9 Truncate strangely .log ∷ applyTo 64 10 Truncate stran
 unfolding applyTo points stopped apply header logMagic
 restored = refl
 
--- ---- a page past the end: lengthened, after 512 bytes, after the 88 that are left; what is past the file stays
+-- ---- a page past the end, of one sector: lengthened, then whole (keyturn's Orders computes a page of two sectors)
 
-grew : applyTo 600 1 (Page 1 nines) three .db ∷ applyTo 600 2 (Page 1 nines) three .db ∷ applyTo 600 3 (Page 1 nines) three .db ∷ []
-    ≡ fileOf (replicate 600 1 ++ replicate 600 0) 1200
-    ∷ fileOf (replicate 600 1 ++ (replicate 512 9 ++ replicate 88 0)) 1200
-    ∷ fileOf (replicate 600 1 ++ nines) 1200 ∷ []
-unfolding applyTo points stopped laidTo lay
+abbrev tail : Files
+tail = record { log = fileOf [] 0; db = fileOf (1 ∷ 2 ∷ 3 ∷ 4 ∷ 5 ∷ 6 ∷ replicate 8 9) 6; clog = fileOf [] 0 }
+
+grew : applyTo 4 1 (Page 2 (four 31)) tail .db ∷ applyTo 4 2 (Page 2 (four 31)) tail .db ∷ applyTo 4 3 (Page 2 (four 31)) tail .db ∷ []
+    ≡ fileOf (1 ∷ 2 ∷ 3 ∷ 4 ∷ 5 ∷ 6 ∷ replicate 6 0 ++ (9 ∷ 9 ∷ [])) 12
+    ∷ fileOf (1 ∷ 2 ∷ 3 ∷ 4 ∷ 5 ∷ 6 ∷ 0 ∷ 0 ∷ four 31 ++ (9 ∷ 9 ∷ [])) 12
+    ∷ fileOf (1 ∷ 2 ∷ 3 ∷ 4 ∷ 5 ∷ 6 ∷ 0 ∷ 0 ∷ four 31 ++ (9 ∷ 9 ∷ [])) 12 ∷ []
+unfolding applyTo points stopped apply laidTo lay
 grew = refl
 
 -- ---- store numbers: 0 is none, whatever the position; in the second the first is whole; past the count all
