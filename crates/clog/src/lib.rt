@@ -115,7 +115,8 @@ fn code_of(s: Status) -> u8
 
 // ---- the refusals
 
-fn bad_length(least: usize, size: usize, len: usize) -> bool
+// Whether a clog call that wants a length of at least that much gives 1.
+pub fn bad_length(least: usize, size: usize, len: usize) -> bool
     ensures { λ r. ⌜ r ≡ unfit least size len ⌝ }
 {
     if fields::is_unfit(numbers::CLOG_LIMIT, size, len) {

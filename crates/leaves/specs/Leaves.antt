@@ -1,5 +1,5 @@
 -- What a host gets of a call on one file: its number, four values, and every byte of the buffers that it lent. The values are those that the call tells, zeros
--- after the last; all four are written at every call, refused ones too. What a call tells and leaves is defined by the crates wal, clog and meta.
+-- after the last; all four are written at every call, refused ones too. What a call tells and leaves is defined by the crates wal, clog, xacts and meta.
 -- Assumes nothing.
 use Prim.Native.Nat.{ℕ}
 use mathlib.Core.List.{List, [], _∷_}

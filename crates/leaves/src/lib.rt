@@ -1,4 +1,4 @@
-// The leaf calls for a host in C or Rust: log reader and writer, clog, meta page. A file is a buffer that the host lends and a length. The answer is the call's
+// The leaf calls for a host in C or Rust: log reader and writer, clog, status pages, meta page. A file is a buffer that the host lends and a length. The answer is the call's
 // number; the values that come with it go into four numbers of the host, zeros after the last: specs/Leaves.antt says which. A slice is a pointer and a length
 // to the host.
 use fields::Answer;
@@ -20,6 +20,7 @@ ghost use Rattle.wal.specs.Records.{image, begin, commit, abort, checkpoint};
 ghost use Rattle.wal.specs.Reading.{recordTold, readTold, readIn, startIn};
 ghost use Rattle.wal.specs.Writing.{appended, truncated};
 ghost use Rattle.clog.specs.Calls.{opened, wiped, compacted, loaded};
+ghost use Rattle.xacts.specs.Calls.{written, readBack};
 ghost use Rattle.meta.specs.Page.{formatNo, storedTold, metaIn, metaPage};
 ghost use Rattle.packs.specs.Packs.{statusIn};
 ghost use Rattle.packs.specs.Values.{said, four};
@@ -245,6 +246,30 @@ pub extern "C" fn clog_load(
     let t = r.table;
     packs::pack_entries(t, table);
     tell_load(a, t.count, values)
+}
+
+// ---- status pages
+
+#[no_mangle]
+pub extern "C" fn clog_write_pages(
+    clog: &[u8],
+    len: usize,
+    mark: u64,
+    out: &mut [u8],
+    values: &mut [u64; 4],
+) -> u8
+    ensures { λ r. ⌜ left r (now (values .exit)) (now (out .exit)) ≡ leftBy (written 8192 mark (fileOf (now (clog .entry)) len) (now (out .entry))) ⌝ }
+{
+    let a = xacts::write_pages(clog, len, TransactionId(mark), out);
+    tell(a, values)
+}
+
+#[no_mangle]
+pub extern "C" fn clog_read_pages(pages: &[u8], out: &mut [u8], values: &mut [u64; 4]) -> u8
+    ensures { λ r. ⌜ left r (now (values .exit)) (now (out .exit)) ≡ leftBy (readBack 8192 (now (pages .entry)) (now (out .entry))) ⌝ }
+{
+    let a = xacts::read_pages(pages, out);
+    tell(a, values)
 }
 
 // ---- page 0
