@@ -171,7 +171,24 @@ static void roll_back_and_advance(void)
     CHECK("the mark", length_at(NYOTMELANG_AT_MARK), 2);
 }
 
-/* The files by themselves: the log appended to and truncated, the clog recorded and loaded, page 0 read and written. */
+/* The clog of ids 2, Aborted, and 5, Committed, as status pages under mark 2, and read back. */
+static void status_pages(size_t len)
+{
+    static uint8_t pages[NYOTMELANG_STATUS_PAGE_BYTES], body[NYOTMELANG_STATUS_PAGE_BYTES];
+    uint64_t values[4];
+    CHECK("pages", clog_write_pages(clog_, sizeof clog_, len, 2, pages, sizeof pages, values), NYOTMELANG_ACCEPTED);
+    CHECK("their length", values[0], sizeof pages);
+    CHECK("ids 0 to 3", pages[0], 0x25);
+    CHECK("id 5", pages[1], 0x04);
+    CHECK("pages too long", clog_write_pages(clog_, sizeof clog_, len, 2, body, sizeof body - 1, values), NYOTMELANG_SLICE_SHORT);
+    CHECK("pages read", clog_read_pages(pages, sizeof pages, body, sizeof body, values), NYOTMELANG_ACCEPTED);
+    CHECK("id 5 again", body[1], clog_[9]);
+    CHECK("part of a page", clog_read_pages(pages, sizeof pages - 1, body, sizeof body, values), NYOTMELANG_PART_OF_PAGE);
+    pages[100] = 3;
+    CHECK("sub-committed", clog_read_pages(pages, sizeof pages, body, sizeof body, values), NYOTMELANG_SUB_COMMITTED);
+}
+
+/* The files by themselves: the log appended to and truncated, the clog recorded, loaded and written out as status pages, page 0 read and written. */
 static void leaves(void)
 {
     uint8_t table[2 * NYOTMELANG_ENTRY_BYTES];
@@ -191,6 +208,7 @@ static void leaves(void)
     CHECK("entries", values[1], 2);
     CHECK("first status", number_at(table, 8, 8), NYOTMELANG_ABORTED);
     CHECK("second id", number_at(table, NYOTMELANG_ENTRY_BYTES, 8), 5);
+    status_pages(10);
     CHECK("truncate", log_truncate(log_, sizeof log_, 0, values), NYOTMELANG_ACCEPTED);
     CHECK("append", log_append_checkpoint(log_, sizeof log_, (size_t)values[0], values), NYOTMELANG_ACCEPTED);
     CHECK("log length", values[0], 9);

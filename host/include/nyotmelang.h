@@ -46,17 +46,24 @@ extern "C" {
 #define NYOTMELANG_TOUCHED_FULL 11
 /* Format version neither 0 nor 2. */
 #define NYOTMELANG_BAD_VERSION 12
-/* The slice for the table is shorter than the table. */
+/* The slice for what is handed out, a table or pages, is too short. */
 #define NYOTMELANG_SLICE_SHORT 13
 /* A store or transaction value out of form: table or touched pages not ascending or over their limit, frames repeated or over the limit, a frame or touched page
  * numbered NYOTMELANG_NO_PAGE, log or clog length under 8; or bytes that are too short for one. */
 #define NYOTMELANG_OUT_OF_FORM 14
+/* Status pages: the clog has an Active slot at or above the mark. */
+#define NYOTMELANG_ACTIVE_ABOVE 19
+/* Status pages: a 3, which is sub-committed, in the input. */
+#define NYOTMELANG_SUB_COMMITTED 20
+/* Status pages: the input is not whole pages. */
+#define NYOTMELANG_PART_OF_PAGE 21
 
 /* ---- sizes and limits */
 
 #define NYOTMELANG_PAGE_BYTES 4096
 #define NYOTMELANG_BUFFER_LIMIT 16777216
 #define NYOTMELANG_CLOG_LIMIT 1048576
+#define NYOTMELANG_STATUS_PAGE_BYTES 8192
 #define NYOTMELANG_HEADER_BYTES 8
 #define NYOTMELANG_STORE_BYTES 6748
 #define NYOTMELANG_ENTRY_BYTES 24
@@ -236,6 +243,15 @@ uint8_t clog_record(uint8_t *clog, size_t clog_bytes, size_t len, uint64_t id, u
 uint8_t clog_compact(uint8_t *clog, size_t clog_bytes, size_t len, uint64_t below, uint64_t *values);
 /* The entries go over the front of table, NYOTMELANG_ENTRY_BYTES each; what does not fit is dropped. values[1]: how many there are. */
 uint8_t clog_load(uint8_t *clog, size_t clog_bytes, size_t len, uint8_t *table, size_t table_bytes, uint64_t *values);
+
+/* ---- status pages, as PostgreSQL keeps them in its folder pg_xact: NYOTMELANG_STATUS_PAGE_BYTES each, two bits for each id as in the clog's body, 0 in progress,
+ * 1 committed, 2 aborted, 3 sub-committed. What is put out goes over the front of out. values[0]: how many bytes, where it is accepted. NYOTMELANG_SLICE_SHORT comes last */
+
+/* The clog's ids below the mark go out as committed, absent ones at or above it as 0; the last page is filled with 0, and a clog of no ids writes no page.
+ * NYOTMELANG_UNFIT, NYOTMELANG_ACTIVE_ABOVE. */
+uint8_t clog_write_pages(const uint8_t *clog, size_t clog_bytes, size_t len, uint64_t mark, uint8_t *out, size_t out_bytes, uint64_t *values);
+/* A body of as many bytes as the pages, without a clog's magic. NYOTMELANG_PART_OF_PAGE, NYOTMELANG_SUB_COMMITTED. */
+uint8_t clog_read_pages(const uint8_t *pages, size_t pages_bytes, uint8_t *out, size_t out_bytes, uint64_t *values);
 
 /* ---- page 0 by itself */
 

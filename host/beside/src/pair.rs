@@ -91,7 +91,7 @@ impl Pair {
             Command::Leaf(leaf) => self.leaf(command, leaf),
             Command::CutGo(k, action @ Action::Stores(_)) => self.cut_go(*k, action),
             Command::Cuts(action) => self.cuts(action),
-            Command::Poke(_) => Err(Fault::Alone),
+            Command::Poke(_) | Command::Put(_) => Err(Fault::Alone),
             Command::Action(Action::Read(page) | Action::Write(page, _)) if far(*page) && *page != u32::MAX => {
                 Err(Fault::Alone)
             }

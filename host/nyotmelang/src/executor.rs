@@ -6,9 +6,10 @@
 use crate::calls::{Call, Telling};
 use crate::crc::crc32;
 use crate::files::{Files, Sizes};
-use crate::leaves::{Found, Record};
+use crate::leaves::{read_status_pages, Found, Record};
+use crate::output::Output;
 use crate::refusal::Refusal;
-use crate::script::{parse, Action, Command, Leaf, Malformed, Poke, Raw, REGISTERS};
+use crate::script::{parse, Action, Command, Leaf, Malformed, Poke, Put, Raw, REGISTERS};
 use crate::store::Store;
 use crate::table::{Entry, Status};
 use crate::transaction::Transaction;
@@ -21,12 +22,13 @@ pub const STALE: u8 = 0xEE;
 /// The buffers of a new case.
 pub const DEFAULT_SIZES: Sizes = Sizes { log: 65536, db: 65536, clog: 4096, frames: 32768 };
 
-/// Four buffers, three lengths, a store or none, and four registers for transactions.
+/// Four buffers, three lengths, a store or none, four registers for transactions, and an output.
 #[derive(Clone, Debug)]
 pub struct Executor {
     files: Files<'static>,
     store: Option<Store>,
     registers: [Option<Transaction>; REGISTERS],
+    output: Output,
 }
 
 impl Default for Executor {
@@ -55,7 +57,8 @@ pub fn run_script(script: &str) -> Result<String, Malformed> {
 impl Executor {
     /// As after `case`.
     pub fn new() -> Executor {
-        Executor { files: Files::filled(DEFAULT_SIZES, STALE), store: None, registers: Default::default() }
+        let (files, registers) = (Files::filled(DEFAULT_SIZES, STALE), Default::default());
+        Executor { files, store: None, registers, output: Output::default() }
     }
 
     /// On these files, with no store.
@@ -84,6 +87,7 @@ impl Executor {
                 Answer::plain()
             }
             Command::Leaf(leaf) => self.leaf(leaf),
+            Command::Put(put) => self.put(put, &mut before)?,
             Command::Make(register, transaction) => {
                 self.registers[*register] = Some(transaction.clone());
                 Answer::plain()
@@ -115,6 +119,7 @@ impl Executor {
             Raw::Buffers(sizes) => {
                 self.files = Files::filled(*sizes, STALE);
                 self.store = None;
+                self.output = Output::default();
             }
             Raw::Append(file, bytes) => self.files.append(*file, bytes),
             Raw::Shorten(file, len) => {
@@ -152,6 +157,48 @@ impl Executor {
         };
         self.agree();
         Answer::of(done, |values| values)
+    }
+}
+
+// ---- the output
+
+impl Executor {
+    fn put(&mut self, put: &Put, before: &mut String) -> Result<Answer, String> {
+        match put {
+            Put::Buffer(size) => self.output = Output::stale(*size),
+            Put::Append(bytes) => self.output.append(bytes),
+            Put::Overwrite(at, bytes) => {
+                let content = self.output.content().len();
+                let end = at.checked_add(bytes.len()).filter(|end| *end <= content);
+                let end = end.ok_or_else(|| format!("the output has {content} bytes"))?;
+                self.output.bytes[*at..end].copy_from_slice(bytes);
+            }
+            Put::PagesOut(mark, size) => {
+                return Ok(self.put_out(*size, before, |e, out| e.files.write_status_pages(*mark, out)));
+            }
+            Put::PagesIn(size) => {
+                return Ok(self.put_out(*size, before, |e, out| read_status_pages(e.output.content(), out)));
+            }
+        }
+        *before += &self.output.line();
+        Ok(Answer::plain())
+    }
+
+    // A call is handed a new buffer, which is the output kept from then on where it is accepted; a refused one shows that it left the buffer alone.
+    fn put_out(
+        &mut self,
+        size: usize,
+        before: &mut String,
+        call: impl FnOnce(&Executor, &mut [u8]) -> Result<usize, Refusal>,
+    ) -> Answer {
+        let mut fresh = Output::stale(size);
+        let done = call(self, &mut fresh.bytes);
+        fresh.len = done.unwrap_or(0);
+        *before += &fresh.line();
+        if done.is_ok() {
+            self.output = fresh;
+        }
+        Answer::of(done, |len| len.to_string())
     }
 }
 

@@ -20,6 +20,7 @@ pub enum Command {
     Case(String),
     Raw(Raw),
     Leaf(Leaf),
+    Put(Put),
     Make(usize, Transaction),
     Action(Action),
     Count(Action),
@@ -54,6 +55,16 @@ pub enum Leaf {
     Record(TransactionId, Status),
     Compact(TransactionId),
     Load,
+}
+
+/// What works with the output that is kept.
+#[derive(Clone, Debug, PartialEq, Eq)]
+pub enum Put {
+    Buffer(usize),
+    Append(Vec<u8>),
+    Overwrite(usize, Vec<u8>),
+    PagesOut(TransactionId, usize),
+    PagesIn(usize),
 }
 
 /// The pager's calls.
@@ -237,6 +248,8 @@ impl Words<'_> {
                     Command::Raw(raw)
                 } else if let Some(leaf) = self.leaf(opcode)? {
                     Command::Leaf(leaf)
+                } else if let Some(put) = self.put(opcode)? {
+                    Command::Put(put)
                 } else {
                     Command::Action(self.action(opcode)?)
                 }
@@ -288,6 +301,18 @@ impl Words<'_> {
             "crec" => Leaf::Record(self.id()?, self.status()?),
             "ccomp" => Leaf::Compact(self.id()?),
             "cload" => Leaf::Load,
+            _ => return Ok(None),
+        }))
+    }
+
+    fn put(&mut self, opcode: &str) -> Parsed<Option<Put>> {
+        Ok(Some(match opcode {
+            "xobuf" => Put::Buffer(self.upto(MOST_BYTES)?),
+            "xo" => Put::Append(self.hex()?),
+            "xozero" => Put::Append(vec![0; self.upto(MOST_BYTES)?]),
+            "xoset" => Put::Overwrite(self.num()?, self.hex()?),
+            "pgout" => Put::PagesOut(self.id()?, self.upto(MOST_BYTES)?),
+            "pgin" => Put::PagesIn(self.upto(MOST_BYTES)?),
             _ => return Ok(None),
         }))
     }

@@ -6,12 +6,13 @@ const SIZES: Sizes = Sizes { log: 16384, db: 32768, clog: 64, frames: 8192 };
 
 #[test]
 fn refusals_have_their_numbers() {
-    for (i, refusal) in REFUSALS.into_iter().enumerate() {
-        assert_eq!(refusal.number() as usize, i + 1);
-        assert_eq!(Refusal::from_number(refusal.number()), Some(refusal));
-        assert!(refusal.to_string().starts_with(&format!("refused with {}: ", i + 1)));
+    let numbers: Vec<u8> = (1..=14).chain(19..=21).collect();
+    assert_eq!(REFUSALS.map(Refusal::number)[..], numbers);
+    for number in 0..=u8::MAX {
+        let refusal = Refusal::from_number(number);
+        assert_eq!(refusal.is_some(), numbers.contains(&number), "{number}");
+        assert!(refusal.is_none_or(|r| r.to_string().starts_with(&format!("refused with {number}: "))), "{number}");
     }
-    assert_eq!((Refusal::from_number(0), Refusal::from_number(15)), (None, None));
 }
 
 #[test]
@@ -112,11 +113,13 @@ fn malformed_lines() {
     let wrong = ["nothing", "begin", "begin x", "begin -1", "begin +1", "begin 1 2", "begin 18446744073709551616"];
     let also =
         ["read 4294967296", "install 4", "xl 0", "xl 0g", "told begin 1", "cut 1 mktx 0 5", "table 65537", "case"];
-    for line in wrong.into_iter().chain(also) {
+    let pages = ["pgout 1", "pgin", "xo 0", "xobuf"];
+    for line in wrong.into_iter().chain(also).chain(pages) {
         let script = format!("open\n{line}\n");
         assert_eq!(run_script(&script).map_err(|m| m.line), Err(2), "{line}");
     }
     assert_eq!(run_script("case a\nxlcut 1\n").map_err(|m| m.line), Err(2));
     assert_eq!(run_script("case a\nxl 00\nxlset 1 00\n").map_err(|m| m.line), Err(3));
+    assert_eq!(run_script("case a\nxobuf 1\nxoset 0 00\n").map_err(|m| m.line), Err(3));
     assert!(run_script("# a comment\n\n   \ncase a\nxl 00\nxlset 0 ff\n").is_ok());
 }
