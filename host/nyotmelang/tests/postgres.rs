@@ -1,5 +1,5 @@
 //! Status pages that a PostgreSQL server wrote, read by the library and held against what the server itself answered of each id. `oracle/pg-sample` recorded both.
-use nyotmelang::{read_status_pages, Refusal};
+use nyotmelang::{read_status_pages, File, Files, Refusal, Sizes, TransactionId};
 use std::collections::BTreeMap;
 use std::fs;
 
@@ -50,6 +50,20 @@ fn the_servers_pages_say_what_it_answers() {
     let next = runs.last().expect("a run").1 + 1;
     assert!((next..4 * body.len()).all(|id| told(&body, id) == "absent"));
     assert!(held["committed"] > 30000 && held["aborted"] > 400 && held["in-progress"] == 5, "{held:?}");
+}
+
+// With no id below the mark a clog of what was read writes the server's own bytes.
+#[test]
+fn the_servers_pages_are_written_again() {
+    let pages = segment("segment");
+    let mut body = vec![0xEE; pages.len()];
+    read_status_pages(&pages, &mut body).expect("pages");
+    let mut files = Files::new(Sizes { log: 0, db: 0, clog: 8 + body.len(), frames: 0 });
+    files.append(File::Clog, b"AEROCLG1");
+    files.append(File::Clog, &body);
+    let mut again = vec![0xEE; pages.len()];
+    assert_eq!(files.write_status_pages(TransactionId(0), &mut again), Ok(16384));
+    assert!(again == pages);
 }
 
 // Six statuses of the second page are sub-committed: `oracle/pg-caught` stopped a server in the middle of a commit.
