@@ -244,8 +244,9 @@ uint8_t clog_compact(uint8_t *clog, size_t clog_bytes, size_t len, uint64_t belo
 /* The entries go over the front of table, NYOTMELANG_ENTRY_BYTES each; what does not fit is dropped. values[1]: how many there are. */
 uint8_t clog_load(uint8_t *clog, size_t clog_bytes, size_t len, uint8_t *table, size_t table_bytes, uint64_t *values);
 
-/* ---- status pages, as PostgreSQL keeps them in its folder pg_xact: NYOTMELANG_STATUS_PAGE_BYTES each, two bits for each id as in the clog's body, 0 in progress,
- * 1 committed, 2 aborted, 3 sub-committed. What is put out goes over the front of out. values[0]: how many bytes, where it is accepted. NYOTMELANG_SLICE_SHORT comes last */
+/* ---- status pages, as PostgreSQL keeps them in its folder pg_xact: NYOTMELANG_STATUS_PAGE_BYTES each, two bits for each id as in the clog's body, 0 in
+ * progress, 1 committed, 2 aborted, 3 sub-committed. What is put out goes over the front of out. values[0]: how many bytes, where it is accepted.
+ * NYOTMELANG_SLICE_SHORT comes last */
 
 /* The clog's ids below the mark go out as committed, absent ones at or above it as 0; the last page is filled with 0, and a clog of no ids writes no page.
  * NYOTMELANG_UNFIT, NYOTMELANG_ACTIVE_ABOVE. */

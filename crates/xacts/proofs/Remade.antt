@@ -9,7 +9,7 @@ use lib.ListN.{length, drop, getD, set, replicate, drop-of-length-le, List·getD
 use lib.Seq.{sets, drop-cons}
 use Rattle.clog.specs.Slots.{bitsOf, slotOf}
 use Rattle.clog.proofs.FourSlots.{by-slot, bits-zero, digit}
-use Rattle.xacts.specs.Pages.{byteOf, remade}
+use Rattle.xacts.specs.Pages.{byteOf, byteMade, remade}
 
 pub length-remade : (f : ℕ → ℕ → ℕ) (bs : List ℕ) (t : ℕ) → length (remade f t bs) ≡ length bs
 unfolding remade
@@ -20,7 +20,7 @@ length-remade f (b ∷ bs) t = ap suc (length-remade f bs (t + 4))
 
 module _ (f : ℕ → ℕ → ℕ) (small : (t c : ℕ) → f t c < 4) where
   -- the law of a byte of four slots
-  four-made : (t b m : ℕ) → m < 4 → bitsOf m (byteOf (f t (bitsOf 0 b)) (f (t + 1) (bitsOf 1 b)) (f (t + 2) (bitsOf 2 b)) (f (t + 3) (bitsOf 3 b))) ≡ f (t + m) (bitsOf m b)
+  four-made : (t b m : ℕ) → m < 4 → bitsOf m (byteMade f t b) ≡ f (t + m) (bitsOf m b)
   four-made t b m h =
       digit _ _ _ _ (small t (bitsOf 0 b)) (small (t + 1) (bitsOf 1 b)) (small (t + 2) (bitsOf 2 b)) (small (t + 3) (bitsOf 3 b)) m h
       ∙ by-slot (λ m. getD (f t (bitsOf 0 b) ∷ f (t + 1) (bitsOf 1 b) ∷ f (t + 2) (bitsOf 2 b) ∷ f (t + 3) (bitsOf 3 b) ∷ []) m 0 ≡ f (t + m) (bitsOf m b))
@@ -45,7 +45,7 @@ module _ (f : ℕ → ℕ → ℕ) (small : (t c : ℕ) → f t c < 4) where
 
 -- the code asks for the slots by division and remainder, and not by their definition
 pub four-read : (f : ℕ → ℕ → ℕ) (t b c0 c1 c2 c3 : ℕ) → c0 ≡ f t (b % 4) → c1 ≡ f (t + 1) (b / 4 % 4) → c2 ≡ f (t + 2) (b / 16 % 4) → c3 ≡ f (t + 3) (b / 64 % 4)
-    → byteOf c0 c1 c2 c3 ≡ byteOf (f t (bitsOf 0 b)) (f (t + 1) (bitsOf 1 b)) (f (t + 2) (bitsOf 2 b)) (f (t + 3) (bitsOf 3 b))
+    → byteOf c0 c1 c2 c3 ≡ byteMade f t b
 unfolding bitsOf
 four-read f t b c0 c1 c2 c3 p q r s = let e : b % 4 ≡ b / 1 % 4 = omega arith in rw (p, q, r, s, e)
 
@@ -72,8 +72,7 @@ slot-filled bs n k = rw getD-filled
 -- ---- the loops that write: a turn, and the end
 
 module _ (f : ℕ → ℕ → ℕ) (src out : List ℕ) (i : ℕ) where
-  pub remade-turn : (v : ℕ) → i < length src
-      → v ≡ byteOf (f (4 * i) (bitsOf 0 (getD src i 0))) (f (4 * i + 1) (bitsOf 1 (getD src i 0))) (f (4 * i + 2) (bitsOf 2 (getD src i 0))) (f (4 * i + 3) (bitsOf 3 (getD src i 0)))
+  pub remade-turn : (v : ℕ) → i < length src → v ≡ byteMade f (4 * i) (getD src i 0)
       → sets (set out i v) (i + 1) (remade f (4 * (i + 1)) (drop (i + 1) src)) ≡ sets out i (remade f (4 * i) (drop i src))
   unfolding remade
   remade-turn v h e =

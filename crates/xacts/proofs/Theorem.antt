@@ -1,15 +1,18 @@
 -- Writing and reading back: slot by slot at the level of lists, then of the two calls. Assumes nothing.
-use mathlib.Core.Path.{_≡_, refl, sym, ap, _∙_}
+use mathlib.Core.Path.{_≡_, refl, sym, ap, subst, _∙_}
 use mathlib.Core.List.{List}
 use mathlib.Core.Bool.{false}
 use Prim.Native.Nat.{ℕ, _+_, _-_, _*_, _/_, _%_, _≤_, _<_}
 use native.Mathlib.Omega.{arith}
+use lib.Dec.{lit≤}
 use lib.ListN.{length, take, drop}
 use lib.Seq.{sets, length-slice, getD-drop}
 use borrow.Author.Tests.{eq-eqb, le-ltb}
+use Rattle.fields.specs.declared.Answer.{Answer}
 use Rattle.fields.specs.declared.Answer.the-variants.{Accepted}
 use Rattle.fields.specs.Files.{File, fileOf, content}
 use Rattle.fields.specs.Answers.{Outcome, outcome}
+use Rattle.fields.proofs.AnswerLaws.{outcome-same}
 use Rattle.fields.proofs.Tests.{Order, less, most, order}
 use Rattle.clog.specs.Slots.{bitsOf, slotOf, codes}
 use Rattle.clog.proofs.SlotLaws.{slot-small, slice-sets}
@@ -130,3 +133,12 @@ module _ (Q mark : ℕ) (f : File) (out : List ℕ) (n : ℕ) (pages : List ℕ)
 pub round-trip : (Q : ℕ) → AllRoundTrip Q
 unfolding AllRoundTrip
 round-trip Q mark f out n pages back₀ whole done long = came-back Q mark f out n pages done back₀ whole long
+
+-- the same of what the two functions return, by their contracts
+pub round-trip-code : (mark : ℕ) (f : File) (out : List ℕ) (n : ℕ) (pages back₀ back : List ℕ) (r : Answer) → outcome (Accepted n) pages ≡ written 8192 mark f out
+    → outcome r back ≡ readBack 8192 (take n pages) back₀ → n ≤ length back₀ → (r ≡ Accepted n) × RoundTrip 8192 mark f n pages back₀ back
+unfolding AllRoundTrip
+round-trip-code mark f out n pages back₀ back r w b long =
+    let c = round-trip 8192 mark f out n pages back₀ (lit≤ tt) (sym w) long in
+    let e = outcome-same r (Accepted n) back (readBack 8192 (take n pages) back₀ .bytes) (b ∙ c .accepted) in
+    (e .0, subst (λ (x : List ℕ). RoundTrip 8192 mark f n pages back₀ x) (sym (e .1)) c)

@@ -28,11 +28,14 @@ readAs c = cond (eqb c 1) 2 (cond (eqb c 2) 3 0)
 abbrev pub byteOf : ℕ → ℕ → ℕ → ℕ → ℕ
 byteOf c0 c1 c2 c3 = c0 + 4 * c1 + 16 * c2 + 64 * c3
 
--- bytes with each slot made anew by f, of its id and of what it was; the first slot is that of the id t
+-- a byte with each slot made anew by f, of its id and of what it was; the first slot is that of the id t
+abbrev pub byteMade : (ℕ → ℕ → ℕ) → ℕ → ℕ → ℕ
+byteMade f t b = byteOf (f t (bitsOf 0 b)) (f (t + 1) (bitsOf 1 b)) (f (t + 2) (bitsOf 2 b)) (f (t + 3) (bitsOf 3 b))
+
+-- the same of bytes, one after the other
 unfoldable pub remade : (ℕ → ℕ → ℕ) → ℕ → List ℕ → List ℕ
 remade f t [] = []
-remade f t (b ∷ bs) =
-    byteOf (f t (bitsOf 0 b)) (f (t + 1) (bitsOf 1 b)) (f (t + 2) (bitsOf 2 b)) (f (t + 3) (bitsOf 3 b)) ∷ remade f (t + 4) bs
+remade f t (b ∷ bs) = byteMade f t b ∷ remade f (t + 4) bs
 
 -- ---- pages
 

@@ -3,9 +3,9 @@
 --   an id at or past the body's end is absent again                                     absent
 --   the body's ids below the mark read back Committed                                   below
 --   what was written is accepted where the output is as long                            accepted
--- The clog f is written under the mark into `out`, where n bytes come to stand in `pages`; these n are read into `back₀`, and `back` is what comes to stand there. A
--- status is a slot: 0 absent, 1 Active, 2 Committed, 3 Aborted. Not said, because it is not so: that writing again what was read gives the same pages. Ids between the
--- old body's end and the mark are within the new body, and are written as committed then. Assumes nothing.
+-- The clog f is written under the mark into `out`, and `pages` is what comes to stand there, n bytes of it written; these n are read into `back₀`, and `back` is
+-- what comes to stand there. A status is a slot: 0 absent, 1 Active, 2 Committed, 3 Aborted. Not said, because it is not so: that writing again what was read gives
+-- the same pages. Ids between the old body's end and the mark are within the new body, and are written as committed then. Assumes nothing.
 use mathlib.Core.Path.{_≡_}
 use mathlib.Core.List.{List}
 use Prim.Native.Nat.{ℕ, _-_, _*_, _≤_, _<_}

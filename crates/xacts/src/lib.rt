@@ -1,18 +1,18 @@
-// Status pages as PostgreSQL keeps them in its folder pg_xact: a clog's body written out under a mark, and pages read back into a body. Both calls are total; each
-// contract is one equation with a definition of specs/Calls.antt. Each goes over its input twice: once to test it, so that a refusal changes nothing, and once
-// to write; in a pass each byte is looked at once, whatever its slots are.
+// Status pages as PostgreSQL keeps them in its folder pg_xact: a clog's body written out under a mark, and pages read back into a body. Both calls are
+// total; each contract is one equation with a definition of specs/Calls.antt. Each goes over its input twice: once to test it, so that a refusal changes
+// nothing, and once to write; in a pass each byte is looked at once, whatever its slots are.
 use fields::Answer;
 use fields::TransactionId;
 use fields::numbers;
 ghost use mathlib.Core.Path.{_≡_};
 ghost use mathlib.Core.Bool.{cond};
-ghost use Prim.Native.Nat.{_+_, _-_, _*_, _≤_, _<_};
+ghost use Prim.Native.Nat.{_-_, _≤_, _<_};
 ghost use lib.ListN.{length, drop};
 ghost use lib.Seq.{sets};
 ghost use Rattle.fields.specs.Files.{fileOf};
 ghost use Rattle.fields.specs.Answers.{outcome};
-ghost use Rattle.clog.specs.Slots.{bitsOf, codes};
-ghost use Rattle.xacts.specs.Pages.{writtenAs, readAs, byteOf, remade, wholePages, bodyFrom};
+ghost use Rattle.clog.specs.Slots.{codes};
+ghost use Rattle.xacts.specs.Pages.{writtenAs, readAs, byteOf, byteMade, remade, wholePages, bodyFrom};
 ghost use Rattle.xacts.specs.Calls.{has, writeNo, readNo, written, readBack};
 ghost use Rattle.xacts.specs.Inside.{fourOf};
 
@@ -73,7 +73,7 @@ fn byte_of(c0: u8, c1: u8, c2: u8, c3: u8) -> u8
 // The byte of a page for a body's byte whose first slot is that of the id.
 fn written_byte(mark: u64, id: u64, b: u8) -> u8
     requires { ⌜ id ≤ 4194304 ⌝ }
-    ensures { λ r. ⌜ r ≡ byteOf (writtenAs mark id (bitsOf 0 b)) (writtenAs mark (id + 1) (bitsOf 1 b)) (writtenAs mark (id + 2) (bitsOf 2 b)) (writtenAs mark (id + 3) (bitsOf 3 b)) ⌝ }
+    ensures { λ r. ⌜ r ≡ byteMade (writtenAs mark) id b ⌝ }
 {
     let c0 = written_as(mark, id, b % 4);
     let c1 = written_as(mark, id + 1, b / 4 % 4);
@@ -83,7 +83,7 @@ fn written_byte(mark: u64, id: u64, b: u8) -> u8
 }
 
 fn read_byte(b: u8) -> u8
-    ensures { λ r. ⌜ r ≡ byteOf (readAs (bitsOf 0 b)) (readAs (bitsOf 1 b)) (readAs (bitsOf 2 b)) (readAs (bitsOf 3 b)) ⌝ }
+    ensures { λ r. ⌜ r ≡ byteMade (λ t c. readAs c) 0 b ⌝ }
 {
     let c0 = read_as(b % 4);
     let c1 = read_as(b / 4 % 4);
@@ -94,7 +94,7 @@ fn read_byte(b: u8) -> u8
 
 // ---- whether a slot is c
 
-// A slot of the byte that is not among its first w is c. From the highest down, so that each test is the last where it decides.
+// A slot of the byte that is not among its first w is c. The highest is asked first; on the way down the first slot under w ends the search.
 fn byte_has(c: u8, w: u64, b: u8) -> bool
     ensures { λ r. ⌜ r ≡ has c (drop w (fourOf b)) ⌝ }
 {

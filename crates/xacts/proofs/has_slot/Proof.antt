@@ -1,5 +1,5 @@
--- `xacts::has_slot` meets its contract. The loop's invariant: asking the slots that are left gives what was asked for; `left` is how many of them do not count. The
--- measure is how many bytes are left. Assumes nothing.
+-- `xacts::has_slot` meets its contract. The loop's invariant: asking the slots that are left gives what was asked for; `left` is how many of them do not
+-- count. The measure is how many bytes are left. Assumes nothing.
 use mathlib.Core.Path.{_≡_, refl, sym, _∙_}
 use Prim.Native.Nat.{_-_, _≤_}
 use native.Mathlib.Omega.{arith}
@@ -45,7 +45,8 @@ loop-again : tie.Need-loop-again Inv-loop μ-loop
 loop-again c =
     let l = c .before .before .before .before .before .loop in
     let a = c .before .before .before .before .before .before .before .args in
-    (omega arith, rw (c .less4 .ensures) (sym (found-later (a .c) (l .left) (a .s .now) (l .i) (omega arith) (sym (c .before .before .byte-has .ensures) ∙ c .before .if1 .left)) ∙ l .inv .1))
+    let n = sym (c .before .before .byte-has .ensures) ∙ c .before .if1 .left in
+    (omega arith, rw (c .less4 .ensures) (sym (found-later (a .c) (l .left) (a .s .now) (l .i) (omega arith) n) ∙ l .inv .1))
 
 returns-2 : tie.Need-returns-2 Inv-loop μ-loop
 returns-2 c =

@@ -1,4 +1,5 @@
--- `xacts::read_body` meets its contract. The loop's invariant: writing what is left gives what was asked for. The measure is how many bytes are left. Assumes nothing.
+-- `xacts::read_body` meets its contract. The loop's invariant: writing what is left gives what was asked for.
+-- The measure is how many bytes are left. Assumes nothing.
 use mathlib.Core.Path.{_≡_, refl, sym, _∙_}
 use Prim.Native.Nat.{_-_, _*_, _≤_}
 use native.Mathlib.Omega.{arith}
@@ -11,7 +12,8 @@ use Rattle.xacts.proofs.read_body.Statement.{statement}
 use Rattle.xacts.proofs.read_body.Tie as tie
 
 abbrev Inv-loop : tie.InvT-loop
-Inv-loop pages out₀ i₀ out i = (i ≤ length pages) × (length out ≡ length out₀) × (sets out i (remade (λ t c. readAs c) (4 * i) (drop i pages)) ≡ sets out₀ 0 (remade (λ t c. readAs c) 0 pages))
+Inv-loop pages out₀ i₀ out i =
+    (i ≤ length pages) × (length out ≡ length out₀) × (sets out i (remade (λ t c. readAs c) (4 * i) (drop i pages)) ≡ sets out₀ 0 (remade (λ t c. readAs c) 0 pages))
 
 abbrev μ-loop : tie.MeasureT-loop
 μ-loop pages out₀ i₀ out i = length pages - i

@@ -24,7 +24,8 @@ byte-of-requires c κs = search needs
 returns : tie.Need-returns
 returns c =
     let d = c .before .before .before in
-    c .byte-of .ensures ∙ four-read (λ t c. readAs c) 0 _ _ _ _ _ (d .before .read-as .ensures .0) (d .read-as2 .ensures .0) (c .before .before .read-as3 .ensures .0) (c .before .read-as4 .ensures .0)
+    c .byte-of .ensures ∙ four-read (λ t c. readAs c) 0 _ _ _ _ _ (d .before .read-as .ensures .0) (d .read-as2 .ensures .0)
+    (c .before .before .read-as3 .ensures .0) (c .before .read-as4 .ensures .0)
 
 pub read-byte-spec : {M : Type 1} → statement M
 read-byte-spec =

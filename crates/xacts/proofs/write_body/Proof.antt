@@ -1,4 +1,5 @@
--- `xacts::write_body` meets its contract. The loop's invariant: writing what is left gives what was asked for. The measure is how many bytes are left. Assumes nothing.
+-- `xacts::write_body` meets its contract. The loop's invariant: writing what is left gives what was asked for.
+-- The measure is how many bytes are left. Assumes nothing.
 use mathlib.Core.Path.{_≡_, refl, sym, _∙_}
 use Prim.Native.Nat.{_-_, _*_, _≤_}
 use native.Mathlib.Omega.{arith}
@@ -10,7 +11,8 @@ use Rattle.xacts.proofs.write_body.Statement.{statement}
 use Rattle.xacts.proofs.write_body.Tie as tie
 
 abbrev Inv-loop : tie.InvT-loop
-Inv-loop body mark out₀ i₀ out i = (i ≤ length body) × (length out ≡ length out₀) × (sets out i (remade (writtenAs mark) (4 * i) (drop i body)) ≡ sets out₀ 0 (remade (writtenAs mark) 0 body))
+Inv-loop body mark out₀ i₀ out i =
+    (i ≤ length body) × (length out ≡ length out₀) × (sets out i (remade (writtenAs mark) (4 * i) (drop i body)) ≡ sets out₀ 0 (remade (writtenAs mark) 0 body))
 
 abbrev μ-loop : tie.MeasureT-loop
 μ-loop body mark out₀ i₀ out i = length body - i

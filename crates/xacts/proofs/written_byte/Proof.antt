@@ -34,7 +34,8 @@ returns : tie.Need-returns
 returns c =
     let a = c .before .before .before .before .before .args in
     let d = c .before .before .before in
-    c .byte-of .ensures ∙ four-read (writtenAs (a .mark)) (a .id) _ _ _ _ _ (d .before .written-as .ensures .0) (d .written-as2 .ensures .0) (c .before .before .written-as3 .ensures .0) (c .before .written-as4 .ensures .0)
+    c .byte-of .ensures ∙ four-read (writtenAs (a .mark)) (a .id) _ _ _ _ _ (d .before .written-as .ensures .0) (d .written-as2 .ensures .0)
+    (c .before .before .written-as3 .ensures .0) (c .before .written-as4 .ensures .0)
 
 pub written-byte-spec : {M : Type 1} → statement M
 written-byte-spec =
