@@ -197,6 +197,39 @@ static void leaves(void)
     CHECK("append past the buffer", log_append_begin(log_, 16, 9, 1, values), NYOTMELANG_LOG_FULL);
 }
 
+/* A clog moved to its second form, worked in there, and moved back. Under the mark 9 the base is 8; 9 is Committed, 10 Aborted. */
+static void second_form(void)
+{
+    static const uint8_t old[11] = { 'A', 'E', 'R', 'O', 'C', 'L', 'G', '1', 0, 0, 0x38 };
+    uint8_t second[15], back[16], table[3 * NYOTMELANG_ENTRY_BYTES];
+    uint64_t values[4];
+    memset(second, 7, sizeof second);
+    CHECK("a slot below the base", clog_to_second(old, sizeof old, sizeof old, 12, second, sizeof second, values), NYOTMELANG_SLOT_BELOW_BASE);
+    CHECK("an output too short", clog_to_second(old, sizeof old, sizeof old, 9, second, 13, values), NYOTMELANG_SLICE_SHORT);
+    CHECK("what a refusal left", number_at(second, 0, 4), 0x07070707);
+    CHECK("to the second form", clog_to_second(old, sizeof old, sizeof old, 9, second, sizeof second, values), NYOTMELANG_ACCEPTED);
+    CHECK("its length", values[0], 14);
+    CHECK("the length that it states", second[3], 10);
+    CHECK("its base", second[12], 8);
+    CHECK("the byte after it", second[14], 7);
+    CHECK("recording below the base", second_record(second, sizeof second, 14, 7, NYOTMELANG_ABORTED, 0, values), NYOTMELANG_ID_BELOW_BASE);
+    CHECK("recording", second_record(second, sizeof second, 14, 12, NYOTMELANG_ACTIVE, 0, values), NYOTMELANG_ACCEPTED);
+    CHECK("its length", values[0], 15);
+    CHECK("the length that it states", second[3], 11);
+    CHECK("load", second_load(second, sizeof second, 15, table, sizeof table, values), NYOTMELANG_ACCEPTED);
+    CHECK("entries", values[1], 3);
+    CHECK("first id", number_at(table, 0, 8), 9);
+    CHECK("last status", number_at(table, 2 * NYOTMELANG_ENTRY_BYTES + 8, 8), NYOTMELANG_ABORTED);
+    CHECK("compact", second_compact(second, sizeof second, 15, 10, values), NYOTMELANG_ACCEPTED);
+    CHECK("its base", second[12], 8);
+    CHECK("to the old form", clog_to_first(second, sizeof second, 15, back, sizeof back, values), NYOTMELANG_ACCEPTED);
+    CHECK("its length", values[0], 12);
+    CHECK("its header", memcmp(back, old, 10), 0);
+    CHECK("its slots", number_at(back, 10, 2), 0x0330);
+    second[4] = 3;
+    CHECK("another version", clog_to_first(second, sizeof second, 15, back, sizeof back, values), NYOTMELANG_BAD_FORM);
+}
+
 int main(void)
 {
     open_store(0, 0, 0);
@@ -207,6 +240,7 @@ int main(void)
     commit_and_read_back();
     roll_back_and_advance();
     leaves();
+    second_form();
     printf("try: %u values as they should be\n", checks);
     return 0;
 }

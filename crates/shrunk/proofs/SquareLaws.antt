@@ -14,12 +14,16 @@ use Rattle.fields.proofs.Stored.{past-sets}
 use Rattle.fields.proofs.BigLaws.{length-bigBytes, beOf-bigBytes}
 use Rattle.fields.proofs.FileLaws.{content-length}
 use Rattle.clog.specs.Slots.{clogMagic, withBits, setSlot, cleared, clearSlots, settledByte, settled}
-use Rattle.clog.proofs.SlotLaws.{record-room, record-len, record-fit, record-at, record-off, record-header, compact-room, compact-len, compact-body, compact-header, settled-room, settled-len, settled-body, settled-header}
+use Rattle.clog.proofs.SlotLaws.{record-len, record-fit, record-at, record-off, record-header, compact-body, compact-header, settled-body, settled-header}
 use Rattle.clog.proofs.ZeroLaws.{cleared-zeros, settled-zeros}
 use Rattle.shrunk.specs.Form.{baseOf, toFirst}
 use Rattle.shrunk.specs.Calls.{relength}
 use Rattle.shrunk.proofs.FormLaws.{Fits, base-front, base-same, fits-same}
 use Rattle.shrunk.proofs.MoveLaws.{magic-long, length-first, first-body, first-front, first-packed}
+
+-- an id's slot set in a file of the second form, its stated length not yet
+abbrev pub slotted : ℕ → ℕ → File → File
+slotted id c g = setSlot 13 (id - baseOf (content g)) c g
 
 -- ---- the length that the file states
 
@@ -131,44 +135,44 @@ module _ (g o : File) (same : content o ≡ toFirst (content g)) (fg : g .len �
     low-bits : id % 4 ≡ (id - baseOf (content g)) % 4
     low-bits = omega (arith, fits .fourfold)
 
-    recorded-fit : setSlot 13 (id - baseOf (content g)) c g .len ≤ room (setSlot 13 (id - baseOf (content g)) c g)
+    recorded-fit : slotted id c g .len ≤ room (slotted id c g)
     recorded-fit = record-fit 13 (id - baseOf (content g)) c g fg rg
 
-    recorded-base : baseOf (content (relength (setSlot 13 (id - baseOf (content g)) c g))) ≡ baseOf (content g)
+    recorded-base : baseOf (content (relength (slotted id c g))) ≡ baseOf (content g)
     recorded-base =
-        relength-base (setSlot 13 (id - baseOf (content g)) c g) recorded-fit
-        ∙ base-same (content g) (content (setSlot 13 (id - baseOf (content g)) c g)) (record-header 13 (id - baseOf (content g)) c g fg rg g-head)
+        relength-base (slotted id c g) recorded-fit
+        ∙ base-same (content g) (content (slotted id c g)) (record-header 13 (id - baseOf (content g)) c g fg rg g-head)
 
-    recorded-length : length (content (setSlot 8 id c o)) ≡ length (toFirst (content (relength (setSlot 13 (id - baseOf (content g)) c g))))
+    recorded-length : length (content (setSlot 8 id c o)) ≡ length (toFirst (content (relength (slotted id c g))))
     recorded-length =
         let a : length (content (setSlot 8 id c o)) ≡ max (o .len) (8 + id / 4 + 1) = content-length (setSlot 8 id c o) (record-fit 8 id c o fo ro) ∙ record-len 8 id c o in
-        let b : length (content (relength (setSlot 13 (id - baseOf (content g)) c g))) ≡ max (g .len) (13 + (id - baseOf (content g)) / 4 + 1) =
-        relength-length (setSlot 13 (id - baseOf (content g)) c g) recorded-fit ∙ record-len 13 (id - baseOf (content g)) c g in
+        let b : length (content (relength (slotted id c g))) ≡ max (g .len) (13 + (id - baseOf (content g)) / 4 + 1) =
+        relength-length (slotted id c g) recorded-fit ∙ record-len 13 (id - baseOf (content g)) c g in
         a ∙ rw (length-first, recorded-base, b) (omega (arith, o-len, at-o, g-head))
 
     record-byte : (i : ℕ) → Order i (8 + baseOf (content g) / 4) → Equal i (8 + id / 4)
-        → getD (content (setSlot 8 id c o)) i 0 ≡ getD (toFirst (content (relength (setSlot 13 (id - baseOf (content g)) c g)))) i 0
+        → getD (content (setSlot 8 id c o)) i 0 ≡ getD (toFirst (content (relength (slotted id c g)))) i 0
     record-byte i (less p) (equal q) = absurd (omega (arith, at-o))
     record-byte i (less p) (other q) =
-        let t : i < 8 + baseOf (content (relength (setSlot 13 (id - baseOf (content g)) c g))) / 4 = rw recorded-base p in
+        let t : i < 8 + baseOf (content (relength (slotted id c g))) / 4 = rw recorded-base p in
         record-off 8 id c o fo ro i q ∙ ap (λ (l : List ℕ). getD l i 0) same ∙ first-front (content g) i p
-        ∙ sym (first-front (content (relength (setSlot 13 (id - baseOf (content g)) c g))) i t ∙ rw recorded-base)
+        ∙ sym (first-front (content (relength (slotted id c g))) i t ∙ rw recorded-base)
     record-byte i (most p) q =
         let e : i ≡ 8 + baseOf (content g) / 4 + (i - (8 + baseOf (content g) / 4)) = omega arith in
-        left q ∙ sym (ap (λ (k : ℕ). getD (toFirst (content (relength (setSlot 13 (id - baseOf (content g)) c g)))) k 0) e ∙ right)
+        left q ∙ sym (ap (λ (k : ℕ). getD (toFirst (content (relength (slotted id c g)))) k 0) e ∙ right)
       where
-        right : getD (toFirst (content (relength (setSlot 13 (id - baseOf (content g)) c g)))) (8 + baseOf (content g) / 4 + (i - (8 + baseOf (content g) / 4))) 0
-            ≡ getD (content (setSlot 13 (id - baseOf (content g)) c g)) (13 + (i - (8 + baseOf (content g) / 4))) 0
+        right : getD (toFirst (content (relength (slotted id c g)))) (8 + baseOf (content g) / 4 + (i - (8 + baseOf (content g) / 4))) 0
+            ≡ getD (content (slotted id c g)) (13 + (i - (8 + baseOf (content g) / 4))) 0
         right =
-            rw recorded-base at (first-packed (content (relength (setSlot 13 (id - baseOf (content g)) c g))) (i - (8 + baseOf (content g) / 4)))
-            ∙ relength-byte (setSlot 13 (id - baseOf (content g)) c g) recorded-fit (i - (8 + baseOf (content g) / 4))
+            rw recorded-base at (first-packed (content (relength (slotted id c g))) (i - (8 + baseOf (content g) / 4)))
+            ∙ relength-byte (slotted id c g) recorded-fit (i - (8 + baseOf (content g) / 4))
 
         old : getD (content o) i 0 ≡ getD (content g) (13 + (i - (8 + baseOf (content g) / 4))) 0
         old =
             let e : i ≡ 8 + baseOf (content g) / 4 + (i - (8 + baseOf (content g) / 4)) = omega arith in
             ap (λ (l : List ℕ). getD l i 0) same ∙ ap (λ (k : ℕ). getD (toFirst (content g)) k 0) e ∙ first-packed (content g) (i - (8 + baseOf (content g) / 4))
 
-        left : Equal i (8 + id / 4) → getD (content (setSlot 8 id c o)) i 0 ≡ getD (content (setSlot 13 (id - baseOf (content g)) c g)) (13 + (i - (8 + baseOf (content g) / 4))) 0
+        left : Equal i (8 + id / 4) → getD (content (setSlot 8 id c o)) i 0 ≡ getD (content (slotted id c g)) (13 + (i - (8 + baseOf (content g) / 4))) 0
         left (equal q) =
             let k : 13 + (i - (8 + baseOf (content g) / 4)) ≡ 13 + (id - baseOf (content g)) / 4 = omega (arith, at-o) in
             ap (λ (n : ℕ). getD (content (setSlot 8 id c o)) n 0) q ∙ record-at 8 id c o fo ro
@@ -178,7 +182,7 @@ module _ (g o : File) (same : content o ≡ toFirst (content g)) (fg : g .len �
             record-off 8 id c o fo ro i q ∙ old
             ∙ sym (record-off 13 (id - baseOf (content g)) c g fg rg (13 + (i - (8 + baseOf (content g) / 4))) (λ e. q (omega (arith, at-o, e))))
 
-    pub record-square : content (setSlot 8 id c o) ≡ toFirst (content (relength (setSlot 13 (id - baseOf (content g)) c g)))
+    pub record-square : content (setSlot 8 id c o) ≡ toFirst (content (relength (slotted id c g)))
     record-square =
-        ext-getD 0 (content (setSlot 8 id c o)) (toFirst (content (relength (setSlot 13 (id - baseOf (content g)) c g)))) recorded-length
+        ext-getD 0 (content (setSlot 8 id c o)) (toFirst (content (relength (slotted id c g)))) recorded-length
         (λ i h. record-byte i (order i (8 + baseOf (content g) / 4)) (equality i (8 + id / 4)))

@@ -1,6 +1,6 @@
 -- Document 02's sentences on the second form, said of what the calls answer: with the bytes of accepted calls in hand. `TwoForms g o` says that the file g, of the
 -- second form, and the file o, of the old one, are the same clog: o holds what g is moved to.
---   "files move both ways"                                                                                        second-moved, first-moved
+--   "files move both ways"                                                                                        second-moved, first-moved, moved-is
 --   "where neither move is refused, old to new to old returns the same bytes"                                     there-and-back
 --   "and new to old to new if the base is the one this rule gives under the stated mark"                          back-and-there
 --   a status has the same id in both; an id below the base is absent                                              slot-same, slot-absent, status-same
@@ -32,13 +32,13 @@ use Rattle.clog.specs.Slots.{slotOf, setSlot, clearSlots, entriesIn, inUse, set
 use Rattle.clog.specs.Calls.{unfit, recordNo, compactNo, loadNo, recorded, compacted, LoadOutcome, loadOutcome, tableBy, loadDecided, loaded}
 use Rattle.clog.proofs.Codes.{many}
 use Rattle.clog.proofs.Refusals.{fit-ok, record-fits, compact-fits, load-fits}
-use Rattle.clog.proofs.SlotLaws.{record-len, record-room, record-fit, record-header, compact-len, compact-room, compact-header, settled-len, settled-room, settled-header}
+use Rattle.clog.proofs.SlotLaws.{record-len, record-fit, record-header, compact-len, compact-room, compact-header, settled-len, settled-room, settled-header}
 use Rattle.clog.proofs.Theorems.{accepted-file, recorded-file, compacted-file, loaded-file}
 use Rattle.shrunk.specs.Form.{baseOf, misfits, baseUnder, toSecond, toFirst}
 use Rattle.shrunk.specs.Calls.{secondNo, formNo, firstNo, written, movedSecond, movedFirst, relength, recordedSecond, compactedSecond, loadedSecond}
 use Rattle.shrunk.proofs.FormLaws.{Fits, fits-means, fits-ok, base-same, fits-same}
 use Rattle.shrunk.proofs.MoveLaws.{length-first, second-fits, second-base, old-back, second-back, slot-below, slot-above, entries-same}
-use Rattle.shrunk.proofs.SquareLaws.{relength-room, relength-len, relength-base, relength-states, relength-fits, compact-square, settled-square, record-square}
+use Rattle.shrunk.proofs.SquareLaws.{slotted, relength-len, relength-base, relength-states, relength-fits, compact-square, settled-square, record-square}
 use Rattle.shrunk.proofs.Ways.{second-means, first-means}
 
 pub record TwoForms (g o : File) : Type 0 where
@@ -62,7 +62,9 @@ written-len out ys = refl
 module _ (mark n : ℕ) (f : File) (out bs : List ℕ) (done : movedSecond mark f out ≡ outcome (Accepted n) bs) where
   second-file : (secondNo mark f (length out) ≡ 0) × (fileOf bs n ≡ written out (toSecond mark (content f)))
   unfolding movedSecond
-  second-file = accepted-file (secondNo mark f (length out)) n (fileOf out 0) (written out (toSecond mark (content f))) bs (ap (λ (o : Outcome). o .told) done) (ap (λ (o : Outcome). o .bytes) done)
+  second-file =
+      accepted-file (secondNo mark f (length out)) n (fileOf out 0) (written out (toSecond mark (content f))) bs
+      (ap (λ (o : Outcome). o .told) done) (ap (λ (o : Outcome). o .bytes) done)
 
   second-bytes : take n bs ≡ toSecond mark (content f)
   second-bytes =
@@ -81,7 +83,9 @@ module _ (mark n : ℕ) (f : File) (out bs : List ℕ) (done : movedSecond mark 
 module _ (n : ℕ) (g : File) (out bs : List ℕ) (done : movedFirst g out ≡ outcome (Accepted n) bs) where
   first-file : (firstNo g (length out) ≡ 0) × (fileOf bs n ≡ written out (toFirst (content g)))
   unfolding movedFirst
-  first-file = accepted-file (firstNo g (length out)) n (fileOf out 0) (written out (toFirst (content g))) bs (ap (λ (o : Outcome). o .told) done) (ap (λ (o : Outcome). o .bytes) done)
+  first-file =
+      accepted-file (firstNo g (length out)) n (fileOf out 0) (written out (toFirst (content g))) bs
+      (ap (λ (o : Outcome). o .told) done) (ap (λ (o : Outcome). o .bytes) done)
 
   first-length : n ≡ length (toFirst (content g))
   first-length = ap (λ (x : File). x .len) (first-file .1) ∙ written-len out (toFirst (content g))
@@ -95,9 +99,14 @@ module _ (n : ℕ) (g : File) (out bs : List ℕ) (done : movedFirst g out ≡ o
   pub first-moved : TwoForms g (fileOf bs n)
   first-moved = record { fits = first-means g (length out) _ refl (first-file .0) .2; same = first-bytes }
 
+  -- where g and o are the same clog, every accepted move of g gives o's bytes
+  pub moved-is : (o : File) → TwoForms g o → take n bs ≡ content o
+  moved-is o two = first-bytes ∙ sym (two .same)
+
 module _ (mark n m : ℕ) (bs bs₂ out out₂ : List ℕ) where
   -- old to new to old
-  pub there-and-back : (f : File) → movedSecond mark f out ≡ outcome (Accepted n) bs → movedFirst (fileOf bs n) out₂ ≡ outcome (Accepted m) bs₂ → (m ≡ f .len) × (take m bs₂ ≡ content f)
+  pub there-and-back : (f : File) → movedSecond mark f out ≡ outcome (Accepted n) bs → movedFirst (fileOf bs n) out₂ ≡ outcome (Accepted m) bs₂
+      → (m ≡ f .len) × (take m bs₂ ≡ content f)
   there-and-back f there back =
       let e : take m bs₂ ≡ content f = first-bytes m (fileOf bs n) out₂ bs₂ back ∙ sym (second-moved mark n f out bs there .same) in
       let s = second-means mark (f .len) (length out) (f .bytes) _ refl (second-file mark n f out bs there .0) in
@@ -111,8 +120,10 @@ module _ (mark n m : ℕ) (bs bs₂ out out₂ : List ℕ) where
       let p = first-means g (length out) _ refl (first-file n g out bs back .0) in
       let k : length (drop 8 (toFirst (content g))) ≡ n - 8 = length-drop 8 (toFirst (content g)) ∙ ap (λ (x : ℕ). x - 8) (sym (first-length n g out bs back)) in
       let e : take m bs₂ ≡ content g =
-      second-bytes mark m (fileOf bs n) out₂ bs₂ there ∙ ap (toSecond mark) (first-bytes n g out bs back) ∙ second-back mark (content g) (fits-means (content g) (p .2)) b (rw k rule) in
-      let l : m ≡ length (toSecond mark (content (fileOf bs n))) = ap (λ (x : File). x .len) (second-file mark m (fileOf bs n) out₂ bs₂ there .1) ∙ written-len out₂ (toSecond mark (content (fileOf bs n))) in
+      second-bytes mark m (fileOf bs n) out₂ bs₂ there ∙ ap (toSecond mark) (first-bytes n g out bs back)
+      ∙ second-back mark (content g) (fits-means (content g) (p .2)) b (rw k rule) in
+      let l : m ≡ length (toSecond mark (content (fileOf bs n))) =
+      ap (λ (x : File). x .len) (second-file mark m (fileOf bs n) out₂ bs₂ there .1) ∙ written-len out₂ (toSecond mark (content (fileOf bs n))) in
       (l ∙ ap length (sym (second-bytes mark m (fileOf bs n) out₂ bs₂ there) ∙ e) ∙ content-length g (p .1), e)
 
 -- ---- the statuses
@@ -146,27 +157,27 @@ form-accepted f n z =
 -- ---- record
 
 module _ (id c n : ℕ) (g : File) (bs : List ℕ) (done : recordedSecond g id c ≡ outcome (Accepted n) bs) where
-  record-file : (formNo g (recordNo 13 (baseOf (content g)) id (room g) (g .len)) ≡ 0) × (fileOf bs n ≡ relength (setSlot 13 (id - baseOf (content g)) c g))
+  record-file : (formNo g (recordNo 13 (baseOf (content g)) id (room g) (g .len)) ≡ 0) × (fileOf bs n ≡ relength (slotted id c g))
   unfolding recordedSecond
   record-file =
-      accepted-file (formNo g (recordNo 13 (baseOf (content g)) id (room g) (g .len))) n g (relength (setSlot 13 (id - baseOf (content g)) c g)) bs
+      accepted-file (formNo g (recordNo 13 (baseOf (content g)) id (room g) (g .len))) n g (relength (slotted id c g)) bs
       (ap (λ (o : Outcome). o .told) done) (ap (λ (o : Outcome). o .bytes) done)
 
   pub record-states : (4 + bigField 4 0 (take n bs) ≡ n) × (baseOf (take n bs) ≡ baseOf (content g)) × (misfits (take n bs) ≡ false)
   record-states =
       let a = form-accepted g _ (record-file .0) in
       let f = record-fits 13 (baseOf (content g)) id (room g) (g .len) _ refl (a .3) in
-      let s : setSlot 13 (id - baseOf (content g)) c g .len ≤ room (setSlot 13 (id - baseOf (content g)) c g) = record-fit 13 (id - baseOf (content g)) c g (f .1) (f .3) in
+      let s : slotted id c g .len ≤ room (slotted id c g) = record-fit 13 (id - baseOf (content g)) c g (f .1) (f .3) in
       let l = record-len 13 (id - baseOf (content g)) c g in
-      let h : 13 ≤ setSlot 13 (id - baseOf (content g)) c g .len = omega (arith, l) in
-      let k : setSlot 13 (id - baseOf (content g)) c g .len ≤ 1048576 = omega (arith, l, f .0, f .1, f .3) in
-      let e : take 13 (content (setSlot 13 (id - baseOf (content g)) c g)) ≡ take 13 (content g) = record-header 13 (id - baseOf (content g)) c g (f .1) (f .3) (f .2) in
-      let w : take n bs ≡ content (relength (setSlot 13 (id - baseOf (content g)) c g)) = ap content (record-file .1) in
-      let m : n ≡ setSlot 13 (id - baseOf (content g)) c g .len = ap (λ (x : File). x .len) (record-file .1) ∙ relength-len (setSlot 13 (id - baseOf (content g)) c g) s in
-      let t : bigField 4 0 (take n bs) ≡ setSlot 13 (id - baseOf (content g)) c g .len - 4 = ap (λ (x : List ℕ). bigField 4 0 x) w ∙ relength-states (setSlot 13 (id - baseOf (content g)) c g) s h k in (
+      let h : 13 ≤ slotted id c g .len = omega (arith, l) in
+      let k : slotted id c g .len ≤ 1048576 = omega (arith, l, f .0, f .1, f .3) in
+      let e : take 13 (content (slotted id c g)) ≡ take 13 (content g) = record-header 13 (id - baseOf (content g)) c g (f .1) (f .3) (f .2) in
+      let w : take n bs ≡ content (relength (slotted id c g)) = ap content (record-file .1) in
+      let m : n ≡ slotted id c g .len = ap (λ (x : File). x .len) (record-file .1) ∙ relength-len (slotted id c g) s in
+      let t : bigField 4 0 (take n bs) ≡ slotted id c g .len - 4 = ap (λ (x : List ℕ). bigField 4 0 x) w ∙ relength-states (slotted id c g) s h k in (
         omega (arith, t, m, h),
-        ap baseOf w ∙ relength-base (setSlot 13 (id - baseOf (content g)) c g) s ∙ base-same (content g) (content (setSlot 13 (id - baseOf (content g)) c g)) e,
-        ap misfits w ∙ fits-ok (content (relength (setSlot 13 (id - baseOf (content g)) c g))) (relength-fits (setSlot 13 (id - baseOf (content g)) c g) s (content g) h k e (fits-means (content g) (a .2))),
+        ap baseOf w ∙ relength-base (slotted id c g) s ∙ base-same (content g) (content (slotted id c g)) e,
+        ap misfits w ∙ fits-ok (content (relength (slotted id c g))) (relength-fits (slotted id c g) s (content g) h k e (fits-means (content g) (a .2))),
       )
 
   pub record-both : (m : ℕ) (o : File) (cs : List ℕ) → recorded 8 0 o id c ≡ outcome (Accepted m) cs → TwoForms g o → TwoForms (fileOf bs n) (fileOf cs m)

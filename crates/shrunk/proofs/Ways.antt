@@ -313,21 +313,21 @@ module _ (bytes : List ℕ) (len number : ℕ) (e : number ≡ formNo (fileOf by
       abbrev new : File
       new = setSlot 13 (id - base) c (fileOf bytes len)
 
-      numbered : outcome r bs ≡ decided (recordNo 13 base id (length bytes) len) (fileOf bytes len) (setSlot 13 (id - base) c (fileOf bytes len))
+      numbered : outcome r bs ≡ decided (recordNo 13 base id (length bytes) len) (fileOf bytes len) new
       unfolding recorded
       numbered = o
 
       -- an accepted record tells a length that a field of 4 bytes holds
       record Told : Type 0 where
         accepted : recordNo 13 base id (length bytes) len ≡ 0
-        answer : r ≡ Accepted (setSlot 13 (id - base) c (fileOf bytes len) .len)
-        file : fileOf bs (setSlot 13 (id - base) c (fileOf bytes len) .len) ≡ setSlot 13 (id - base) c (fileOf bytes len)
-        long : 13 ≤ setSlot 13 (id - base) c (fileOf bytes len) .len
-        short : setSlot 13 (id - base) c (fileOf bytes len) .len ≤ 1048576
+        answer : r ≡ Accepted (new .len)
+        file : fileOf bs (new .len) ≡ new
+        long : 13 ≤ new .len
+        short : new .len ≤ 1048576
 
       told-of : recordNo 13 base id (length bytes) len ≡ 0 → Told
       told-of k =
-          let p = answer-accepted r bs _ (fileOf bytes len) (setSlot 13 (id - base) c (fileOf bytes len)) numbered k in
+          let p = answer-accepted r bs _ (fileOf bytes len) new numbered k in
           let g = record-fits 13 base id (length bytes) len _ refl k in
           let l = record-len 13 (id - base) c (fileOf bytes len) in
           record { accepted = k; answer = p .0; file = p .1; long = omega (arith, l); short = omega (arith, l, g .0, g .1, g .3) }
@@ -337,11 +337,13 @@ module _ (bytes : List ℕ) (len number : ℕ) (e : number ≡ formNo (fileOf by
       unfolding recordedSecond
       refused-told n = go (recordNo 13 base id (length bytes) len) refl
         where
-          go : (k : ℕ) → recordNo 13 base id (length bytes) len ≡ k → outcome r bs
-              ≡ decided (formNo (fileOf bytes len) (recordNo 13 (baseOf (take len bytes)) id (length bytes) len)) (fileOf bytes len) (relength (setSlot 13 (id - baseOf (take len bytes)) c (fileOf bytes len)))
-          go zero k = let t = told-of k in let l : lengthOf r ≡ setSlot 13 (id - base) c (fileOf bytes len) .len = ap lengthOf (t .answer) in absurd (omega (arith, t .long))
+          go : (k : ℕ) → recordNo 13 base id (length bytes) len ≡ k
+              → outcome r bs
+              ≡ decided (formNo (fileOf bytes len) (recordNo 13 (baseOf (take len bytes)) id (length bytes) len)) (fileOf bytes len)
+              (relength (setSlot 13 (id - baseOf (take len bytes)) c (fileOf bytes len)))
+          go zero k = let t = told-of k in let l : lengthOf r ≡ new .len = ap lengthOf (t .answer) in absurd (omega (arith, t .long))
           go (suc k) q =
-              let p = answer-refused r bs _ (fileOf bytes len) (setSlot 13 (id - base) c (fileOf bytes len)) numbered k q in
+              let p = answer-refused r bs _ (fileOf bytes len) new numbered k q in
               let m = form-means (fileOf bytes len) number e z in
               let h : formNo (fileOf bytes len) (recordNo 13 (baseOf (take len bytes)) id (length bytes) len) ≡ suc k = m .3 _ ∙ rw (← b) q in
               rw (p .0, p .1) (outcome-refused (suc k) _ (fileOf bytes len) _ bytes (omega arith) h refl)
@@ -352,7 +354,7 @@ module _ (bytes : List ℕ) (len number : ℕ) (e : number ≡ formNo (fileOf by
           go : (k : ℕ) → recordNo 13 base id (length bytes) len ≡ k → Told
           go zero k = told-of k
           go (suc k) q =
-              let p = answer-refused r bs _ (fileOf bytes len) (setSlot 13 (id - base) c (fileOf bytes len)) numbered k q in
+              let p = answer-refused r bs _ (fileOf bytes len) new numbered k q in
               absurd (n (ap lengthOf (p .0)))
 
       pub told-length : (lengthOf r ≡ 0 → ⊥) → (13 ≤ lengthOf r) × (lengthOf r ≤ 1048576)
@@ -364,6 +366,6 @@ module _ (bytes : List ℕ) (len number : ℕ) (e : number ≡ formNo (fileOf by
           let t = told-as n in
           let m = form-means (fileOf bytes len) number e z in
           let h : formNo (fileOf bytes len) (recordNo 13 (baseOf (take len bytes)) id (length bytes) len) ≡ 0 = m .3 _ ∙ rw (← b) (t .accepted) in
-          let s : bs ≡ setSlot 13 (id - base) c (fileOf bytes len) .bytes = ap (λ (x : File). x .bytes) (t .file) in
-          let w : buf ≡ sets (setSlot 13 (id - base) c (fileOf bytes len) .bytes) 0 (bigBytes 4 (setSlot 13 (id - base) c (fileOf bytes len) .len - 4)) = q ∙ rw (s, t .answer) in
+          let s : bs ≡ new .bytes = ap (λ (x : File). x .bytes) (t .file) in
+          let w : buf ≡ sets (new .bytes) 0 (bigBytes 4 (new .len - 4)) = q ∙ rw (s, t .answer) in
           rw (t .answer, w, b) (outcome-accepted _ _ (fileOf bytes len) (relength (setSlot 13 (id - baseOf (take len bytes)) c (fileOf bytes len))) _ h refl)

@@ -1,17 +1,20 @@
 //! The wrapper itself: refusals by name, lengths after each call, transactions that come back, borrowed buffers, scripts.
 use nyotmelang::executor::run_script;
-use nyotmelang::{Entry, File, Files, Refusal, Sizes, Status, Store, Transaction, TransactionId, REFUSALS};
+use nyotmelang::{
+    CommitTime, Entry, File, Files, Output, Refusal, Sizes, Status, Store, Transaction, TransactionId, REFUSALS,
+};
 
 const SIZES: Sizes = Sizes { log: 16384, db: 32768, clog: 64, frames: 8192 };
 
 #[test]
 fn refusals_have_their_numbers() {
-    for (i, refusal) in REFUSALS.into_iter().enumerate() {
-        assert_eq!(refusal.number() as usize, i + 1);
+    let numbers: Vec<_> = REFUSALS.into_iter().map(Refusal::number).collect();
+    assert_eq!(numbers, (1..=14).chain(22..=24).collect::<Vec<_>>());
+    for refusal in REFUSALS {
         assert_eq!(Refusal::from_number(refusal.number()), Some(refusal));
-        assert!(refusal.to_string().starts_with(&format!("refused with {}: ", i + 1)));
+        assert!(refusal.to_string().starts_with(&format!("refused with {}: ", refusal.number())));
     }
-    assert_eq!((Refusal::from_number(0), Refusal::from_number(15)), (None, None));
+    assert_eq!([0, 15, 21, 25].map(Refusal::from_number), [None; 4]);
 }
 
 #[test]
@@ -63,6 +66,28 @@ fn borrowed_buffers_are_written() {
     store.flush(&mut files, 1).expect("a flush");
     assert_eq!((files.len(File::Log), files.len(File::Database)), (8 + 4101, 8192));
     assert_eq!((&log[..8], &db[4096..], &clog[..8]), (&b"AEROWAL2"[..], &[3; 4096][..], &b"AEROCLG1"[..]));
+}
+
+// What README warns of: an opening takes a clog in its second form for a damaged one and resets it. Moved back before, nothing is lost.
+#[test]
+fn an_opening_resets_the_second_form() {
+    let mut files = Files::new(SIZES);
+    let mut store = Store::open(&mut files).expect("empty files");
+    store.begin(&mut files, TransactionId(5)).expect("a begin");
+    store.commit(&mut files).expect("a commit");
+    let (mut second, mut first) = (Output::filled(64, 0), Output::filled(64, 0));
+    files.clog_to_second(TransactionId(5), &mut second).expect("the second form");
+    second.to_first(&mut first).expect("the old form");
+    let reopened = |clog: &Output| {
+        let mut files = files.clone();
+        files.set_len(File::Clog, 0);
+        files.append(File::Clog, clog.content());
+        let entries = Store::open(&mut files).expect("accepted, alas").entries();
+        (entries, files.content(File::Clog).to_vec())
+    };
+    let kept = Entry { id: TransactionId(5), status: Status::Committed(CommitTime(0)) };
+    assert_eq!(reopened(&second), (vec![], b"AEROCLG1".to_vec()));
+    assert_eq!(reopened(&first), (vec![kept], b"AEROCLG1\0\x08".to_vec()));
 }
 
 // A store whose bytes are changed at random, and files of any length: answered, whatever comes.
