@@ -90,6 +90,19 @@ fn an_opening_resets_the_second_form() {
     assert_eq!(reopened(&first), (vec![kept], b"AEROCLG1\0\x08".to_vec()));
 }
 
+// The greatest base fills the largest old form with zeros; one packed byte more has no place in it, however large the output is.
+#[test]
+fn the_largest_old_form() {
+    let mut second = Output::filled(64, 0);
+    second.append(b"\0\0\0\x09\x02\0\0\0\0\0\x3F\xFF\xE0");
+    let mut first = Output::filled(2_000_000, 0xEE);
+    assert_eq!(second.to_first(&mut first), Ok(1_048_576));
+    assert!(first.content().starts_with(b"AEROCLG1") && first.content()[8..].iter().all(|byte| *byte == 0));
+    assert_eq!(second.record_status(TransactionId(4_194_272), Status::Aborted), Ok(()));
+    let before = first.clone();
+    assert_eq!((second.to_first(&mut first), first), (Err(Refusal::SliceShort), before));
+}
+
 // A store whose bytes are changed at random, and files of any length: answered, whatever comes.
 #[test]
 fn any_bytes_are_answered() {
