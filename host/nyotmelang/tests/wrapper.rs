@@ -52,6 +52,8 @@ fn the_table_three_ways() {
     let one_by_one: Vec<_> = (0..4).map(|i| store.entry(&files, i).expect("accepted")).collect();
     assert_eq!(one_by_one, [Some(all[0]), Some(all[1]), Some(all[2]), None]);
     assert_eq!(store.table_within(&files, 2), Err(Refusal::SliceShort));
+    // More room than memory could hold is no harm: the table never needs it.
+    assert_eq!(store.table_within(&files, usize::MAX), Ok(all));
 }
 
 #[test]
