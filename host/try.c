@@ -171,7 +171,24 @@ static void roll_back_and_advance(void)
     CHECK("the mark", length_at(NYOTMELANG_AT_MARK), 2);
 }
 
-/* The files by themselves: the log appended to and truncated, the clog recorded and loaded, page 0 read and written. */
+/* The clog of ids 2, Aborted, and 5, Committed, as status pages under mark 2, and read back. */
+static void status_pages(size_t len)
+{
+    static uint8_t pages[NYOTMELANG_STATUS_PAGE_BYTES], body[NYOTMELANG_STATUS_PAGE_BYTES];
+    uint64_t values[4];
+    CHECK("pages", clog_write_pages(clog_, sizeof clog_, len, 2, pages, sizeof pages, values), NYOTMELANG_ACCEPTED);
+    CHECK("their length", values[0], sizeof pages);
+    CHECK("ids 0 to 3", pages[0], 0x25);
+    CHECK("id 5", pages[1], 0x04);
+    CHECK("pages too long", clog_write_pages(clog_, sizeof clog_, len, 2, body, sizeof body - 1, values), NYOTMELANG_SLICE_SHORT);
+    CHECK("pages read", clog_read_pages(pages, sizeof pages, body, sizeof body, values), NYOTMELANG_ACCEPTED);
+    CHECK("id 5 again", body[1], clog_[9]);
+    CHECK("part of a page", clog_read_pages(pages, sizeof pages - 1, body, sizeof body, values), NYOTMELANG_PART_OF_PAGE);
+    pages[100] = 3;
+    CHECK("sub-committed", clog_read_pages(pages, sizeof pages, body, sizeof body, values), NYOTMELANG_SUB_COMMITTED);
+}
+
+/* The files by themselves: the log appended to and truncated, the clog recorded, loaded and written out as status pages, page 0 read and written. */
 static void leaves(void)
 {
     uint8_t table[2 * NYOTMELANG_ENTRY_BYTES];
@@ -191,10 +208,44 @@ static void leaves(void)
     CHECK("entries", values[1], 2);
     CHECK("first status", number_at(table, 8, 8), NYOTMELANG_ABORTED);
     CHECK("second id", number_at(table, NYOTMELANG_ENTRY_BYTES, 8), 5);
+    status_pages(10);
     CHECK("truncate", log_truncate(log_, sizeof log_, 0, values), NYOTMELANG_ACCEPTED);
     CHECK("append", log_append_checkpoint(log_, sizeof log_, (size_t)values[0], values), NYOTMELANG_ACCEPTED);
     CHECK("log length", values[0], 9);
     CHECK("append past the buffer", log_append_begin(log_, 16, 9, 1, values), NYOTMELANG_LOG_FULL);
+}
+
+/* A clog moved to its second form, worked in there, and moved back. Under the mark 9 the base is 8; 9 is Committed, 10 Aborted. */
+static void second_form(void)
+{
+    static const uint8_t old[11] = { 'A', 'E', 'R', 'O', 'C', 'L', 'G', '1', 0, 0, 0x38 };
+    uint8_t second[15], back[16], table[3 * NYOTMELANG_ENTRY_BYTES];
+    uint64_t values[4];
+    memset(second, 7, sizeof second);
+    CHECK("a slot below the base", clog_to_second(old, sizeof old, sizeof old, 12, second, sizeof second, values), NYOTMELANG_SLOT_BELOW_BASE);
+    CHECK("an output too short", clog_to_second(old, sizeof old, sizeof old, 9, second, 13, values), NYOTMELANG_SLICE_SHORT);
+    CHECK("what a refusal left", number_at(second, 0, 4), 0x07070707);
+    CHECK("to the second form", clog_to_second(old, sizeof old, sizeof old, 9, second, sizeof second, values), NYOTMELANG_ACCEPTED);
+    CHECK("its length", values[0], 14);
+    CHECK("the length that it states", second[3], 10);
+    CHECK("its base", second[12], 8);
+    CHECK("the byte after it", second[14], 7);
+    CHECK("recording below the base", second_record(second, sizeof second, 14, 7, NYOTMELANG_ABORTED, 0, values), NYOTMELANG_ID_BELOW_BASE);
+    CHECK("recording", second_record(second, sizeof second, 14, 12, NYOTMELANG_ACTIVE, 0, values), NYOTMELANG_ACCEPTED);
+    CHECK("its length", values[0], 15);
+    CHECK("the length that it states", second[3], 11);
+    CHECK("load", second_load(second, sizeof second, 15, table, sizeof table, values), NYOTMELANG_ACCEPTED);
+    CHECK("entries", values[1], 3);
+    CHECK("first id", number_at(table, 0, 8), 9);
+    CHECK("last status", number_at(table, 2 * NYOTMELANG_ENTRY_BYTES + 8, 8), NYOTMELANG_ABORTED);
+    CHECK("compact", second_compact(second, sizeof second, 15, 10, values), NYOTMELANG_ACCEPTED);
+    CHECK("its base", second[12], 8);
+    CHECK("to the old form", clog_to_first(second, sizeof second, 15, back, sizeof back, values), NYOTMELANG_ACCEPTED);
+    CHECK("its length", values[0], 12);
+    CHECK("its header", memcmp(back, old, 10), 0);
+    CHECK("its slots", number_at(back, 10, 2), 0x0330);
+    second[4] = 3;
+    CHECK("another version", clog_to_first(second, sizeof second, 15, back, sizeof back, values), NYOTMELANG_BAD_FORM);
 }
 
 int main(void)
@@ -207,6 +258,7 @@ int main(void)
     commit_and_read_back();
     roll_back_and_advance();
     leaves();
+    second_form();
     printf("try: %u values as they should be\n", checks);
     return 0;
 }

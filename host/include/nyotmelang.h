@@ -46,18 +46,33 @@ extern "C" {
 #define NYOTMELANG_TOUCHED_FULL 11
 /* Format version neither 0 nor 2. */
 #define NYOTMELANG_BAD_VERSION 12
-/* The slice for the table is shorter than the table. */
+/* The slice for what is handed out, a table, pages or a clog that is moved, is too short. */
 #define NYOTMELANG_SLICE_SHORT 13
 /* A store or transaction value out of form: table or touched pages not ascending or over their limit, frames repeated or over the limit, a frame or touched page
  * numbered NYOTMELANG_NO_PAGE, log or clog length under 8; or bytes that are too short for one. */
 #define NYOTMELANG_OUT_OF_FORM 14
+/* Status pages: the clog has an Active slot at or above the mark. */
+#define NYOTMELANG_ACTIVE_ABOVE 19
+/* Status pages: a 3, which is sub-committed, in the input. */
+#define NYOTMELANG_SUB_COMMITTED 20
+/* Status pages: the input is not whole pages. */
+#define NYOTMELANG_PART_OF_PAGE 21
+/* A slot below the base is not 0, where a clog is to be moved to its second form. */
+#define NYOTMELANG_SLOT_BELOW_BASE 22
+/* A magic, length, version or base that does not fit the form of a clog, or a base over NYOTMELANG_BASE_LIMIT. */
+#define NYOTMELANG_BAD_FORM 23
+/* Recording an id below the base. */
+#define NYOTMELANG_ID_BELOW_BASE 24
 
 /* ---- sizes and limits */
 
 #define NYOTMELANG_PAGE_BYTES 4096
 #define NYOTMELANG_BUFFER_LIMIT 16777216
 #define NYOTMELANG_CLOG_LIMIT 1048576
+#define NYOTMELANG_STATUS_PAGE_BYTES 8192
 #define NYOTMELANG_HEADER_BYTES 8
+#define NYOTMELANG_SECOND_HEADER_BYTES 13
+#define NYOTMELANG_BASE_LIMIT 4194272
 #define NYOTMELANG_STORE_BYTES 6748
 #define NYOTMELANG_ENTRY_BYTES 24
 #define NYOTMELANG_TRANSACTION_BYTES 280
@@ -236,6 +251,31 @@ uint8_t clog_record(uint8_t *clog, size_t clog_bytes, size_t len, uint64_t id, u
 uint8_t clog_compact(uint8_t *clog, size_t clog_bytes, size_t len, uint64_t below, uint64_t *values);
 /* The entries go over the front of table, NYOTMELANG_ENTRY_BYTES each; what does not fit is dropped. values[1]: how many there are. */
 uint8_t clog_load(uint8_t *clog, size_t clog_bytes, size_t len, uint8_t *table, size_t table_bytes, uint64_t *values);
+
+/* ---- status pages, as PostgreSQL keeps them in its folder pg_xact: NYOTMELANG_STATUS_PAGE_BYTES each, two bits for each id as in the clog's body, 0 in
+ * progress, 1 committed, 2 aborted, 3 sub-committed. What is put out goes over the front of out. values[0]: how many bytes, where it is accepted.
+ * NYOTMELANG_SLICE_SHORT comes last */
+
+/* The clog's ids below the mark go out as committed, absent ones at or above it as 0; the last page is filled with 0, and a clog of no ids writes no page.
+ * NYOTMELANG_UNFIT, NYOTMELANG_ACTIVE_ABOVE. */
+uint8_t clog_write_pages(const uint8_t *clog, size_t clog_bytes, size_t len, uint64_t mark, uint8_t *out, size_t out_bytes, uint64_t *values);
+/* A body of as many bytes as the pages, without a clog's magic. NYOTMELANG_PART_OF_PAGE, NYOTMELANG_SUB_COMMITTED. */
+uint8_t clog_read_pages(const uint8_t *pages, size_t pages_bytes, uint8_t *out, size_t out_bytes, uint64_t *values);
+
+/* ---- the second form of a clog: how many bytes follow, 4 bytes big-endian; 2; the base id, 8 bytes big-endian; the slots from the base on. values[0]: the length
+ * of what was written or is left, where it is accepted.
+ *
+ * A store opens the old form only. pager_open, given the second form as its clog, finds another magic, RESETS it and answers NYOTMELANG_ACCEPTED: the statuses are
+ * gone. Move a clog back before a store is opened, and never keep a moved one where a store's clog is looked for. */
+
+/* A clog is moved under a mark. The base is the mark rounded down to a multiple of 4, or four times the body's length if that is smaller. */
+uint8_t clog_to_second(const uint8_t *clog, size_t clog_bytes, size_t len, uint64_t mark, uint8_t *out, size_t out_bytes, uint64_t *values);
+/* And back. */
+uint8_t clog_to_first(const uint8_t *second, size_t second_bytes, size_t len, uint8_t *out, size_t out_bytes, uint64_t *values);
+/* The same calls as on a clog. The stated length follows a record that lengthens the file; a compaction keeps the base. */
+uint8_t second_record(uint8_t *second, size_t second_bytes, size_t len, uint64_t id, uint64_t status, uint64_t time, uint64_t *values);
+uint8_t second_compact(uint8_t *second, size_t second_bytes, size_t len, uint64_t below, uint64_t *values);
+uint8_t second_load(uint8_t *second, size_t second_bytes, size_t len, uint8_t *table, size_t table_bytes, uint64_t *values);
 
 /* ---- page 0 by itself */
 

@@ -1,6 +1,7 @@
 // The clog: two bits for each transaction id, after a header. Every public function is total; its contract is one equation with a
 // definition of specs/Calls.antt. What record, compact and load do is told over the header's length h and the first id, base:
-// 8 and 0 in the form of document 01.
+// 8 and 0 in the form of document 01. The functions over any h and base, `record_in`, `compact_in` and `load_in`, are public for the second form (crate shrunk);
+// a base has 32 bits there, so that no id of a clog can pass 64.
 use fields::Answer;
 use fields::CommitTime;
 use fields::TransactionId;
@@ -115,7 +116,8 @@ fn code_of(s: Status) -> u8
 
 // ---- the refusals
 
-fn bad_length(least: usize, size: usize, len: usize) -> bool
+// Whether a clog's buffer is over its limit, its length over the buffer, or under the least one.
+pub fn bad_length(least: usize, size: usize, len: usize) -> bool
     ensures { λ r. ⌜ r ≡ unfit least size len ⌝ }
 {
     if fields::is_unfit(numbers::CLOG_LIMIT, size, len) {
@@ -138,11 +140,13 @@ fn reset_no(size: usize, len: usize) -> u8
 
 // The byte of an id is compared with the room after the header: a sum with the header could pass the largest usize.
 fn record_no(h: usize, base: u64, id: u64, size: usize, len: usize) -> u8
-    requires { ⌜ base ≤ id ⌝ }
     ensures { λ r. ⌜ r ≡ recordNo h base id size len ⌝ }
 {
     if bad_length(h, size, len) {
         return numbers::UNFIT;
+    }
+    if id < base {
+        return numbers::ID_BELOW_BASE;
     }
     let byte = ((id - base) / 4) as usize;
     if size - h <= byte {
@@ -204,8 +208,8 @@ pub fn open(clog: &mut [u8], len: usize) -> Answer
 // ---- record
 
 // Zeros go from the length through the slot's byte: a byte past the length counts as 0, whatever the buffer has there.
-fn record_in(clog: &mut [u8], len: usize, h: usize, base: u64, id: u64, code: u8) -> Answer
-    requires { ⌜ (base ≤ id) × (code < 4) ⌝ }
+fn put_in(clog: &mut [u8], len: usize, h: usize, base: u64, id: u64, code: u8) -> Answer
+    requires { ⌜ code < 4 ⌝ }
     ensures { λ r. ⌜ outcome r (now (clog .exit)) ≡ recorded h base (fileOf (now (clog .entry)) len) id code ⌝ }
 {
     let no = record_no(h, base, id, clog.len(), len);
@@ -220,11 +224,24 @@ fn record_in(clog: &mut [u8], len: usize, h: usize, base: u64, id: u64, code: u8
     Answer::Accepted(fields::larger(len, at + 1))
 }
 
+pub fn record_in(
+    clog: &mut [u8],
+    len: usize,
+    h: usize,
+    base: u32,
+    id: TransactionId,
+    status: Status,
+) -> Answer
+    ensures { λ r. ⌜ outcome r (now (clog .exit)) ≡ recorded h base (fileOf (now (clog .entry)) len) (id .0) (codeOf status) ⌝ }
+{
+    let code = code_of(status);
+    put_in(clog, len, h, base as u64, id.0, code)
+}
+
 pub fn record(clog: &mut [u8], len: usize, id: TransactionId, status: Status) -> Answer
     ensures { λ r. ⌜ outcome r (now (clog .exit)) ≡ recorded 8 0 (fileOf (now (clog .entry)) len) (id .0) (codeOf status) ⌝ }
 {
-    let code = code_of(status);
-    record_in(clog, len, numbers::HEADER, 0, id.0, code)
+    record_in(clog, len, numbers::HEADER, 0, id, status)
 }
 
 // ---- compact
@@ -278,14 +295,16 @@ fn clear(clog: &mut [u8], len: usize, h: usize, w: u64)
     }
 }
 
-fn compact_in(clog: &mut [u8], len: usize, h: usize, base: u64, below: u64) -> Answer
-    ensures { λ r. ⌜ outcome r (now (clog .exit)) ≡ compacted h base (fileOf (now (clog .entry)) len) below ⌝ }
+// Ids below the base have no slot here: there is nothing to clear for them.
+pub fn compact_in(clog: &mut [u8], len: usize, h: usize, base: u32, below: TransactionId) -> Answer
+    ensures { λ r. ⌜ outcome r (now (clog .exit)) ≡ compacted h base (fileOf (now (clog .entry)) len) (below .0) ⌝ }
 {
     let no = compact_no(h, clog.len(), len);
     if no != numbers::ACCEPTED {
         return Answer::Refused(no);
     }
-    let w = if below < base { 0 } else { below - base };
+    let first = base as u64;
+    let w = if below.0 < first { 0 } else { below.0 - first };
     clear(clog, len, h, w);
     Answer::Accepted(len)
 }
@@ -293,7 +312,7 @@ fn compact_in(clog: &mut [u8], len: usize, h: usize, base: u64, below: u64) -> A
 pub fn compact(clog: &mut [u8], len: usize, below: TransactionId) -> Answer
     ensures { λ r. ⌜ outcome r (now (clog .exit)) ≡ compacted 8 0 (fileOf (now (clog .entry)) len) (below .0) ⌝ }
 {
-    compact_in(clog, len, numbers::HEADER, 0, below.0)
+    compact_in(clog, len, numbers::HEADER, 0, below)
 }
 
 // ---- load: count, list, settle, each its own loop with no branch
@@ -401,8 +420,7 @@ fn settle(clog: &mut [u8], len: usize, h: usize)
     }
 }
 
-fn load_in(clog: &mut [u8], len: usize, h: usize, base: u64) -> Loaded
-    requires { ⌜ base ≤ 2 ^ 63 ⌝ }
+pub fn load_in(clog: &mut [u8], len: usize, h: usize, base: u32) -> Loaded
     ensures { λ r. ⌜ loadOutcome r (now (clog .exit)) ≡ loaded 256 h base (fileOf (now (clog .entry)) len) ⌝ }
 {
     let no = load_no(&clog[..], len, h);
@@ -412,7 +430,7 @@ fn load_in(clog: &mut [u8], len: usize, h: usize, base: u64) -> Loaded
             table: table::empty(),
         };
     }
-    let t = list_in(&clog[..len], h, base);
+    let t = list_in(&clog[..len], h, base as u64);
     settle(clog, len, h);
     Loaded {
         answer: Answer::Accepted(len),

@@ -1,13 +1,13 @@
-// Fields of a byte buffer: little-endian numbers of 4 and 8 bytes, bytes copied into a lent part, zeros, and the test of a magic.
+// Fields of a byte buffer: numbers of 4 and 8 bytes, little-endian and big-endian, bytes copied into a lent part, zeros, and the test of a magic.
 // Every public function is total: what lies outside the buffer is neither read nor written, and its contract says so by one
 // equation with a definition of specs/Bytes.antt or with `sets`, which stores what lies inside a list and ignores the rest.
 pub mod numbers;
 
 ghost use mathlib.Core.Path.{_≡_};
-ghost use Prim.Native.Nat.{_-_, _^_, _≤_, _<_, min, max};
-ghost use lib.ListN.{length, replicate};
+ghost use Prim.Native.Nat.{_+_, _-_, _^_, _≤_, _<_, min, max};
+ghost use lib.ListN.{length, replicate, set};
 ghost use lib.Seq.{sets};
-ghost use Rattle.fields.specs.Bytes.{field, bytesOf, starts};
+ghost use Rattle.fields.specs.Bytes.{field, bytesOf, bigField, bigBytes, starts};
 ghost use Rattle.fields.specs.Files.{unfit};
 ghost use Rattle.fields.specs.Answers.{lengthOf};
 
@@ -153,6 +153,75 @@ pub fn put_u64(b: &mut [u8], at: usize, v: u64)
 {
     put(b, at, 8, v)
 }
+
+// ---- the same with the highest byte first
+
+// The number in the n bytes from `at` on, of those that lie inside.
+fn get_big(b: &[u8], at: usize, n: usize) -> u64
+    requires { ⌜ n ≤ 8 ⌝ }
+    ensures { λ r. ⌜ (r ≡ bigField n at (now (b .entry))) × (r < 256 ^ n) ⌝ }
+{
+    let k = inside(b.len(), at, n);
+    let mut value: u64 = 0;
+    let mut i = 0;
+    while i < k {
+        value = value * 256 + wide(b[at + i]);
+        i += 1;
+    }
+    value
+}
+
+// The byte i after the place `at`; nothing where that is past the end.
+fn put_byte(b: &mut [u8], at: usize, i: usize, x: u8)
+    ensures { λ _. ⌜ now (b .exit) ≡ set (now (b .entry)) (at + i) x ⌝ }
+{
+    if b.len() <= at {
+        return;
+    }
+    if b.len() - at <= i {
+        return;
+    }
+    b[at + i] = x;
+}
+
+// The n low bytes of v, the lowest of them last: it goes in first.
+fn put_big(b: &mut [u8], at: usize, n: usize, v: u64)
+    ensures { λ _. ⌜ now (b .exit) ≡ sets (now (b .entry)) at (bigBytes n v) ⌝ }
+{
+    let mut high = v;
+    let mut i = n;
+    while 0 < i {
+        i -= 1;
+        put_byte(b, at, i, (high % 256) as u8);
+        high = high / 256;
+    }
+}
+
+pub fn get_big_u32(b: &[u8], at: usize) -> u32
+    ensures { λ r. ⌜ r ≡ bigField 4 at (now (b .entry)) ⌝ }
+{
+    get_big(b, at, 4) as u32
+}
+
+pub fn get_big_u64(b: &[u8], at: usize) -> u64
+    ensures { λ r. ⌜ r ≡ bigField 8 at (now (b .entry)) ⌝ }
+{
+    get_big(b, at, 8)
+}
+
+pub fn put_big_u32(b: &mut [u8], at: usize, v: u32)
+    ensures { λ _. ⌜ now (b .exit) ≡ sets (now (b .entry)) at (bigBytes 4 v) ⌝ }
+{
+    put_big(b, at, 4, v as u64)
+}
+
+pub fn put_big_u64(b: &mut [u8], at: usize, v: u64)
+    ensures { λ _. ⌜ now (b .exit) ≡ sets (now (b .entry)) at (bigBytes 8 v) ⌝ }
+{
+    put_big(b, at, 8, v)
+}
+
+// ---- parts
 
 // src over the front of dst.
 pub fn copy(dst: &mut [u8], src: &[u8])

@@ -13,10 +13,10 @@ use Rattle.table.specs.Entries.{listOf, emptyTable}
 use Rattle.table.proofs.Facts.{list-laid}
 use Rattle.clog.specs.declared.Loaded.{Loaded}
 use Rattle.clog.specs.Slots.{codeOf, entriesIn, settled}
-use Rattle.clog.specs.Calls.{recorded, LoadOutcome, loadOutcome, loadNo, tableBy, loadDecided, loaded}
+use Rattle.clog.specs.Calls.{LoadOutcome, loadOutcome, loadNo, tableBy, loadDecided, loaded}
 use Rattle.packs.specs.Packs.{laidAll, entryBytes, statusIn}
 use Rattle.packs.specs.Values.{said, four}
-use Rattle.leaves.specs.Leaves.{saidBy, left, leftBy, recordedTag, handed, handedBy}
+use Rattle.leaves.specs.Leaves.{saidBy, left, leftBy, byTag, handed, handedBy}
 
 -- a call on one file: what it answers is told, and its bytes are left
 pub answer-left : (o : Outcome) (a : Answer) (n : ℕ) (v b : List ℕ) → outcome a b ≡ o → said n v ≡ saidBy (told a) → left n v b ≡ leftBy o
@@ -25,17 +25,16 @@ answer-left o a n v b p q =
     let s : left n v b ≡ leftBy (outcome a b) = ap (λ (t : Told). record { told = t; bytes = b }) q in
     s ∙ ap leftBy p
 
--- a status is recorded by its tag, or the tag is none
-module _ (f : File) (id tag time : ℕ) where
-  pub tag-none : (n : ℕ) (v : List ℕ) → 2 < tag → said n v ≡ said 1 (0 ∷ 0 ∷ 0 ∷ 0 ∷ []) → left n v (f .bytes) ≡ leftBy (recordedTag f id tag time)
-  unfolding leftBy recordedTag saidBy four
+-- a status goes to a call by its tag, or the tag is none
+module _ (f : File) (call : ℕ → Outcome) (tag time : ℕ) where
+  pub tag-none : (n : ℕ) (v : List ℕ) → 2 < tag → said n v ≡ said 1 (0 ∷ 0 ∷ 0 ∷ 0 ∷ []) → left n v (f .bytes) ≡ leftBy (byTag f call tag time)
+  unfolding leftBy byTag saidBy four
   tag-none n v h q = rw (lt-ltb 2 tag h) (ap (λ (t : Told). record { told = t; bytes = f .bytes }) q)
 
-  pub tag-recorded : (s : Status) (a : Answer) (n : ℕ) (v b : List ℕ) → tag ≤ 2 → s ≡ statusIn tag time → outcome a b ≡ recorded 8 0 f id (codeOf s)
-      → said n v ≡ saidBy (told a) → left n v b ≡ leftBy (recordedTag f id tag time)
-  unfolding recordedTag
-  tag-recorded s a n v b h e p q =
-      answer-left (recordedTag f id tag time) a n v b (p ∙ rw (le-ltb 2 tag h, e)) q
+  pub tag-recorded : (s : Status) (a : Answer) (n : ℕ) (v b : List ℕ) → tag ≤ 2 → s ≡ statusIn tag time → outcome a b ≡ call (codeOf s)
+      → said n v ≡ saidBy (told a) → left n v b ≡ leftBy (byTag f call tag time)
+  unfolding byTag
+  tag-recorded s a n v b h e p q = answer-left (byTag f call tag time) a n v b (p ∙ rw (le-ltb 2 tag h, e)) q
 
 -- a load: its table's entries are laid, its answer told with their count
 pub load-handed : (o : LoadOutcome) (r : Loaded) (n : ℕ) (v b old t : List ℕ) → loadOutcome r b ≡ o

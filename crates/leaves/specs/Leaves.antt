@@ -1,5 +1,5 @@
 -- What a host gets of a call on one file: its number, four values, and every byte of the buffers that it lent. The values are those that the call tells, zeros
--- after the last; all four are written at every call, refused ones too. What a call tells and leaves is defined by the crates wal, clog and meta.
+-- after the last; all four are written at every call, refused ones too. What a call tells and leaves is defined by the crates wal, clog, xacts, shrunk and meta.
 -- Assumes nothing.
 use Prim.Native.Nat.{ℕ}
 use mathlib.Core.List.{List, [], _∷_}
@@ -13,6 +13,7 @@ use Rattle.fields.specs.Answers.{Told, Outcome, outcome}
 use Rattle.table.specs.Entries.{listOf}
 use Rattle.clog.specs.Slots.{codeOf}
 use Rattle.clog.specs.Calls.{recorded, LoadOutcome}
+use Rattle.shrunk.specs.Calls.{recordedSecond}
 use Rattle.packs.specs.Values.{said, four}
 use Rattle.packs.specs.Packs.{laidAll, entryBytes, statusIn}
 
@@ -29,9 +30,16 @@ left number values bytes = record { told = said number values; bytes = bytes }
 unfoldable pub leftBy : Outcome → Outcome
 leftBy o = record { told = saidBy (o .told); bytes = o .bytes }
 
--- A status by its tag, as it stands in a packed store, recorded for an id: 0 Active, 1 Committed, 2 Aborted. Another tag is refused by 1.
+-- A status by its tag, as it stands in a packed store: 0 Active, 1 Committed, 2 Aborted. Another tag is refused by 1; a status goes to the call by its code.
+unfoldable pub byTag : File → (ℕ → Outcome) → ℕ → ℕ → Outcome
+byTag f call tag time = cond (ltb 2 tag) (outcome (Refused 1) (f .bytes)) (call (codeOf (statusIn tag time)))
+
+-- recorded for an id, in a clog and in a file of the second form
 unfoldable pub recordedTag : File → ℕ → ℕ → ℕ → Outcome
-recordedTag f id tag time = cond (ltb 2 tag) (outcome (Refused 1) (f .bytes)) (recorded 8 0 f id (codeOf (statusIn tag time)))
+recordedTag f id tag time = byTag f (recorded 8 0 f id) tag time
+
+unfoldable pub recordedSecondTag : File → ℕ → ℕ → ℕ → Outcome
+recordedSecondTag f id tag time = byTag f (recordedSecond f id) tag time
 
 -- ---- a load
 

@@ -1,4 +1,4 @@
-// The leaf calls for a host in C or Rust: log reader and writer, clog, meta page. A file is a buffer that the host lends and a length. The answer is the call's
+// The leaf calls for a host in C or Rust: log reader and writer, clog, status pages, the second form of a clog, meta page. A file is a buffer that the host lends and a length. The answer is the call's
 // number; the values that come with it go into four numbers of the host, zeros after the last: specs/Leaves.antt says which. A slice is a pointer and a length
 // to the host.
 use fields::Answer;
@@ -23,7 +23,9 @@ ghost use Rattle.clog.specs.Calls.{opened, wiped, compacted, loaded};
 ghost use Rattle.meta.specs.Page.{formatNo, storedTold, metaIn, metaPage};
 ghost use Rattle.packs.specs.Packs.{statusIn};
 ghost use Rattle.packs.specs.Values.{said, four};
-ghost use Rattle.leaves.specs.Leaves.{saidBy, left, leftBy, recordedTag, handed, handedBy};
+ghost use Rattle.xacts.specs.Calls.{written, readBack};
+ghost use Rattle.shrunk.specs.Calls.{movedSecond, movedFirst, compactedSecond, loadedSecond};
+ghost use Rattle.leaves.specs.Leaves.{saidBy, left, leftBy, recordedTag, recordedSecondTag, handed, handedBy};
 
 // ---- the number and the four values
 
@@ -245,6 +247,107 @@ pub extern "C" fn clog_load(
     let t = r.table;
     packs::pack_entries(t, table);
     tell_load(a, t.count, values)
+}
+
+// ---- status pages
+
+#[no_mangle]
+pub extern "C" fn clog_write_pages(
+    clog: &[u8],
+    len: usize,
+    mark: u64,
+    out: &mut [u8],
+    values: &mut [u64; 4],
+) -> u8
+    ensures { λ r. ⌜ left r (now (values .exit)) (now (out .exit)) ≡ leftBy (written 8192 mark (fileOf (now (clog .entry)) len) (now (out .entry))) ⌝ }
+{
+    let a = xacts::write_pages(clog, len, TransactionId(mark), out);
+    tell(a, values)
+}
+
+#[no_mangle]
+pub extern "C" fn clog_read_pages(pages: &[u8], out: &mut [u8], values: &mut [u64; 4]) -> u8
+    ensures { λ r. ⌜ left r (now (values .exit)) (now (out .exit)) ≡ leftBy (readBack 8192 (now (pages .entry)) (now (out .entry))) ⌝ }
+{
+    let a = xacts::read_pages(pages, out);
+    tell(a, values)
+}
+
+// ---- the second form of a clog
+
+#[no_mangle]
+pub extern "C" fn clog_to_second(
+    clog: &[u8],
+    len: usize,
+    mark: u64,
+    out: &mut [u8],
+    values: &mut [u64; 4],
+) -> u8
+    ensures { λ r. ⌜ left r (now (values .exit)) (now (out .exit)) ≡ leftBy (movedSecond mark (fileOf (now (clog .entry)) len) (now (out .entry))) ⌝ }
+{
+    let a = shrunk::to_second(clog, len, TransactionId(mark), out);
+    tell(a, values)
+}
+
+#[no_mangle]
+pub extern "C" fn clog_to_first(
+    second: &[u8],
+    len: usize,
+    out: &mut [u8],
+    values: &mut [u64; 4],
+) -> u8
+    ensures { λ r. ⌜ left r (now (values .exit)) (now (out .exit)) ≡ leftBy (movedFirst (fileOf (now (second .entry)) len) (now (out .entry))) ⌝ }
+{
+    let a = shrunk::to_first(second, len, out);
+    tell(a, values)
+}
+
+#[no_mangle]
+pub extern "C" fn second_record(
+    second: &mut [u8],
+    len: usize,
+    id: u64,
+    status: u64,
+    time: u64,
+    values: &mut [u64; 4],
+) -> u8
+    ensures { λ r. ⌜ left r (now (values .exit)) (now (second .exit)) ≡ leftBy (recordedSecondTag (fileOf (now (second .entry)) len) id status time) ⌝ }
+{
+    if status > 2 {
+        return put(numbers::UNFIT, 0, 0, 0, 0, values);
+    }
+    let taken = status_in(status, time);
+    let a = shrunk::record(second, len, TransactionId(id), taken);
+    tell(a, values)
+}
+
+#[no_mangle]
+pub extern "C" fn second_compact(
+    second: &mut [u8],
+    len: usize,
+    below: u64,
+    values: &mut [u64; 4],
+) -> u8
+    ensures { λ r. ⌜ left r (now (values .exit)) (now (second .exit)) ≡ leftBy (compactedSecond (fileOf (now (second .entry)) len) below) ⌝ }
+{
+    let a = shrunk::compact(second, len, TransactionId(below));
+    tell(a, values)
+}
+
+#[no_mangle]
+pub extern "C" fn second_load(
+    second: &mut [u8],
+    len: usize,
+    table: &mut [u8],
+    values: &mut [u64; 4],
+) -> u8
+    ensures { λ r. ⌜ handed r (now (values .exit)) (now (second .exit)) (now (table .exit)) ≡ handedBy (now (table .entry)) (loadedSecond 256 (fileOf (now (second .entry)) len)) ⌝ }
+{
+    let loaded = shrunk::load(second, len);
+    let answer = loaded.answer;
+    let found = loaded.table;
+    packs::pack_entries(found, table);
+    tell_load(answer, found.count, values)
 }
 
 // ---- page 0

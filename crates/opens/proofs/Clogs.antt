@@ -75,7 +75,7 @@ module _ (es : List Entry) (count k n : ℕ) (clog : List ℕ) (low : 0 < k) (he
   unfolding recordNo
   no-zero =
       let z : idOf (getD es (k - 1) blank) - 0 ≡ idOf (getD es (k - 1) blank) = omega arith in
-      rw (fit-ok 8 (length clog) n small fits head, z, fit-here)
+      rw (fit-ok 8 (length clog) n small fits head, le-ltb (idOf (getD es (k - 1) blank)) 0 (omega arith), z, fit-here)
 
   pub record Put (r : Answer) (out : List ℕ) : Type 0 where
     pub same : recordAll 8 0 (take (k - 1) es) (fileOf out (lengthOf r)) ≡ recordAll 8 0 (take k es) (fileOf clog n)

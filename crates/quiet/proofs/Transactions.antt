@@ -1,4 +1,4 @@
--- Laws of install, uninstall and the allocations, one for each way out of the code. Assumes noHeld.
+-- Laws of install, uninstall and the allocations, one for each way out of the code. Assumes nothing.
 use Prim.Native.Nat.{ℕ, _+_, _≤_, _<_}
 use native.Mathlib.Omega.{arith}
 use mathlib.Core.Path.{_≡_, refl}

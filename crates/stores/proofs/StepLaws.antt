@@ -4,8 +4,8 @@ use mathlib.Core.List.{List, [], _∷_}
 use mathlib.Core.Bool.{false, cond}
 use Prim.Native.Nat.{ℕ, _+_, _-_, _*_, _/_, _%_, _≤_, _<_, max}
 use native.Mathlib.Omega.{arith}
-use borrow.Author.Tests.{le-ltb, lt-leb}
-use lib.Dec.{ltb, leb}
+use borrow.Author.Tests.{le-ltb}
+use lib.Dec.{ltb}
 use lib.ListN.{length, take, drop, getD, replicate}
 use lib.Seq.{sets, length-sets}
 use Rattle.fields.specs.declared.Answer.{Answer}
@@ -107,12 +107,13 @@ module _ (P : ℕ) (f : Files) (s : world.Step) where
     clog-fit = clog-laws.fit-ok 8 (room (f .clog)) (f .clog .len) (enough .clogLimit) (enough .clogLen) (enough .clogHeader)
 
     pub slot-done : (id : ℕ) (t : Status) (a : Answer) (n : ℕ) (bytes : List ℕ) → s ≡ world.SetSlot id t → outcome a bytes ≡ recorded 8 0 (f .clog) id (codeOf t) → n ≡ lengthOf a → clogOut n bytes ≡ apply P s f
-    unfolding recordNo apply mostOf
+    unfolding apply mostOf
     slot-done id t a n bytes e o q =
         let i : id - 0 ≡ id = omega arith in
         let h : 8 + id / 4 < room (f .clog) = omega (arith, enough .clogFits, ap clogEnd e) in
         let k : 8 + (id - 0) / 4 < room (f .clog) = rw i h in
-        let z : _≡_ {A = ℕ} (cond (clog.unfit 8 (room (f .clog)) (f .clog .len)) 1 (cond (leb (room (f .clog)) (8 + (id - 0) / 4)) 6 0)) 0 = rw (clog-fit, lt-leb (room (f .clog)) (8 + (id - 0) / 4) k) in
+        let z : recordNo 8 0 id (room (f .clog)) (f .clog .len) ≡ 0 =
+        clog-laws.record-ok 8 0 id (room (f .clog)) (f .clog .len) (enough .clogLimit) (enough .clogLen) (enough .clogHeader) (omega arith) k in
         let g = accepted-file a bytes (recordNo 8 0 id (room (f .clog)) (f .clog .len)) (f .clog) (setSlot 8 id (codeOf t) (f .clog)) (o ∙ recorded-plain 8 id (codeOf t) (f .clog)) z in
         ap (λ (h : File). withClog h f) (ap (λ (k : ℕ). fileOf bytes k) q ∙ g) ∙ sym (ap (λ (x : world.Step). apply P x f) e)
 

@@ -179,6 +179,7 @@ impl Pair {
         self.tally.points += 1;
         let mut port = Executor::with_files(cut);
         let answer = port.act(&Action::Open);
+        self.opening_foretold(port.files(), &left, &answer)?;
         if outside(&answer) {
             return Ok(());
         }

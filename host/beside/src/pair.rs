@@ -1,11 +1,12 @@
-//! The port and the Rust on the same commands, held against each other after every one.
+//! The port and the Rust on the same commands, held against each other after every one; and the number of each answer against what document 01 gives it.
+use crate::foretell::{Met, Reading};
 use crate::rust::{place, Published, Seen, FILES};
 use crate::tally::Tally;
 use crate::wrong::Wrong;
 use nyotmelang::executor::{Executor, DEFAULT_SIZES, STALE};
-use nyotmelang::script::{Action, Command, Leaf, Raw};
+use nyotmelang::script::{Action, Command, Leaf, Raw, REGISTERS};
 use nyotmelang::transcript::Answer;
-use nyotmelang::{Files, Refusal, Store, PAGE_BYTES};
+use nyotmelang::{File, Files, Refusal, Sizes, Store, Transaction, TransactionId, PAGE_BYTES};
 use std::io;
 use std::path::Path;
 
@@ -17,6 +18,10 @@ pub struct Pair {
     pub(crate) wrong: Option<Wrong>,
     /// A refusal of the port's own with this number is asked of the Rust too, which shows what it would do.
     pub beyond: Option<u8>,
+    /// How document 01 is read where numbers are foretold.
+    pub reading: Reading,
+    // Transactions as they were made or handed out, in form or not.
+    registers: [Option<Transaction>; REGISTERS],
     pub tally: Tally,
     // The files of a case that has made no call yet.
     young: Option<Files<'static>>,
@@ -54,12 +59,14 @@ impl Pair {
     pub fn new(folder: &Path, wrong: Option<Wrong>) -> io::Result<Pair> {
         let (rust, crashed) = (Published::new(&folder.join("a"), wrong)?, Published::new(&folder.join("b"), wrong)?);
         let (port, tally, answer, before) = (Executor::new(), Tally::default(), String::new(), String::new());
-        Ok(Pair { port, rust, crashed, wrong, beyond: None, tally, young: None, answer, before })
+        let (reading, registers) = (Reading::default(), Default::default());
+        Ok(Pair { port, rust, crashed, wrong, beyond: None, reading, registers, tally, young: None, answer, before })
     }
 
     /// As after `case`.
     pub fn reset(&mut self) {
         self.young = Some(Files::filled(DEFAULT_SIZES, STALE));
+        self.registers = Default::default();
         self.rust.reset();
     }
 
@@ -82,7 +89,11 @@ impl Pair {
         if let Some(files) = self.young.take() {
             self.port = Executor::with_files(files);
         }
+        let foretold = self.foretold(command);
+        let handed_out = self.rust.holds().and_then(|holds| holds.transaction);
         self.grown(command)?;
+        self.as_foretold(foretold)?;
+        self.note_registers(command, handed_out);
         agree(&self.port, &self.rust)
     }
 
@@ -91,7 +102,7 @@ impl Pair {
             Command::Leaf(leaf) => self.leaf(command, leaf),
             Command::CutGo(k, action @ Action::Stores(_)) => self.cut_go(*k, action),
             Command::Cuts(action) => self.cuts(action),
-            Command::Poke(_) => Err(Fault::Alone),
+            Command::Poke(_) | Command::Kept(_) | Command::Pages(_) | Command::Second(_) => Err(Fault::Alone),
             Command::Action(Action::Read(page) | Action::Write(page, _)) if far(*page) && *page != u32::MAX => {
                 Err(Fault::Alone)
             }
@@ -115,6 +126,57 @@ impl Pair {
     /// The Rust's lines of a transcript after the last command; its files and its store, and where it was not asked the port's refusal.
     pub fn lines(&self) -> String {
         format!("{}{}", self.before, self.rust.lines(&self.answer))
+    }
+}
+
+// ---- the numbers that document 01 gives
+
+pub(crate) fn sizes_of(files: &Files) -> Sizes {
+    let size = |file| files.buffer(file).len();
+    Sizes { log: size(File::Log), db: size(File::Database), clog: size(File::Clog), frames: files.frames().len() }
+}
+
+impl Pair {
+    // Before the command is run: from the buffers' sizes, which a script gives, and from the Rust's side.
+    fn foretold(&self, command: &Command) -> Option<String> {
+        let (sizes, files, holds) = (sizes_of(self.port.files()), self.rust.bytes(), self.rust.holds());
+        Met { reading: &self.reading, sizes, files, holds, registers: &self.registers }.foretold(command)
+    }
+
+    fn as_foretold(&mut self, foretold: Option<String>) -> Held {
+        let Some(wanted) = foretold else {
+            return Ok(());
+        };
+        self.tally.foretold += 1;
+        if self.answer.split(' ').next() == Some(&wanted) {
+            return Ok(());
+        }
+        differ(format!("the port answers {}, document 01 says {wanted}", self.answer))
+    }
+
+    // The same of an opening by itself.
+    pub(crate) fn opening_foretold(&mut self, files: &Files, left: &[Vec<u8>; 3], answer: &Answer) -> Held {
+        let (sizes, registers) = (sizes_of(files), &self.registers);
+        let met = Met { reading: &self.reading, sizes, files: left, holds: None, registers };
+        let foretold = met.foretold(&Command::Action(Action::Open)).unwrap_or_default();
+        self.tally.foretold += 1;
+        if answer.to_string() == foretold {
+            return Ok(());
+        }
+        differ(format!("the port answers {answer}, document 01 says {foretold}"))
+    }
+
+    fn note_registers(&mut self, command: &Command, handed_out: Option<(u64, Vec<u32>)>) {
+        let accepted = self.answer == "0" || self.answer.starts_with("0 ");
+        match command {
+            Command::Make(register, transaction) => self.registers[*register] = Some(transaction.clone()),
+            Command::Action(Action::Install(register)) if accepted => self.registers[*register] = None,
+            Command::Action(Action::Uninstall(register)) if accepted => {
+                self.registers[*register] =
+                    handed_out.map(|(id, touched)| Transaction::new(TransactionId(id), &touched));
+            }
+            _ => {}
+        }
     }
 }
 

@@ -1,4 +1,5 @@
 //! The published pager as an executor of scripts: the same commands as the port's, on three files in a folder.
+use crate::foretell::Holds;
 use crate::watch::{self, Step};
 use crate::wrong::Wrong;
 use nyotmelang::script::{Action, Leaf, Raw, REGISTERS};
@@ -326,6 +327,19 @@ impl Published {
             wrong.bend_store(&mut seen);
         }
         Some(seen)
+    }
+
+    /// What numbers are foretold from, whatever is put wrong in what is seen.
+    pub fn holds(&self) -> Option<Holds> {
+        let pager = self.pager.as_ref()?;
+        let (_, frames, touched) = pager.seen();
+        Some(Holds {
+            pages: pager.num_pages(),
+            mark: pager.frozen_xid(),
+            ids: pager.transaction_table().into_keys().collect(),
+            transaction: pager.transaction_id().map(|id| (id, touched)),
+            resident: frames.into_iter().map(|(page, _)| page).collect(),
+        })
     }
 
     /// The lines R, S and D of a transcript.

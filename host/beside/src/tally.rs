@@ -14,6 +14,8 @@ pub struct Tally {
     /// Files as a call leaves them at a store, and how many of them were opened on both sides.
     pub points: u64,
     pub reopened: u64,
+    /// Answers whose number was foretold.
+    pub foretold: u64,
 }
 
 impl Tally {
@@ -49,6 +51,7 @@ impl fmt::Display for Tally {
         writeln!(f, "cases: {} ({cases})", self.total_cases())?;
         writeln!(f, "commands: {} ({lines})", self.lines.values().sum::<u64>())?;
         writeln!(f, "answers by number: {answers}")?;
-        write!(f, "crash points: {}, of them opened on both sides: {}", self.points, self.reopened)
+        write!(f, "crash points: {}, of them opened on both sides: {}; ", self.points, self.reopened)?;
+        write!(f, "answers whose number was foretold: {}", self.foretold)
     }
 }

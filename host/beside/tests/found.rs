@@ -1,4 +1,5 @@
 //! The comparison holds where nothing is wrong, and fails under each deliberate mistake.
+use beside::foretell::MISREAD;
 use beside::wrong::WRONGS;
 use nyotmelang::emulated::command;
 use std::process::Output;
@@ -39,6 +40,17 @@ fn each_mistake_is_found_and_made_small() {
     }
 }
 
+// A port that refuses wrongly in one point, or does not refuse, answers as document 01 read wrongly there: the numbers that are foretold show it.
+#[test]
+fn each_wrong_refusal_is_found_and_made_small() {
+    for name in MISREAD {
+        let done = compare(&["--cases", "2000", "--misread", name]);
+        let said = text(&done);
+        assert_eq!(done.status.code(), Some(1), "{name}: {said}");
+        assert!(said.contains(", document 01 says "), "{name}: {said}");
+    }
+}
+
 // Limits that the port has and the Rust has not.
 #[test]
 fn asked_beyond_the_limits_the_rust_differs() {
@@ -51,7 +63,9 @@ fn asked_beyond_the_limits_the_rust_differs() {
 
 #[test]
 fn wrong_arguments_are_refused() {
-    for words in [&["--wrong", "nothing"][..], &["--cases"], &["--more", "1"], &["--cases", "many"]] {
+    let wrong =
+        [&["--wrong", "nothing"][..], &["--misread", "nothing"], &["--cases"], &["--more", "1"], &["--cases", "many"]];
+    for words in wrong {
         assert_eq!(compare(words).status.code(), Some(2), "{words:?}");
     }
 }

@@ -6,9 +6,10 @@
 use crate::calls::{Call, Telling};
 use crate::crc::crc32;
 use crate::files::{Files, Sizes};
-use crate::leaves::{Found, Record};
+use crate::leaves::{read_status_pages, Found, Record};
+use crate::output::Output;
 use crate::refusal::Refusal;
-use crate::script::{parse, Action, Command, Leaf, Malformed, Poke, Raw, REGISTERS};
+use crate::script::{parse, Action, Command, Kept, Leaf, Malformed, Pages, Poke, Raw, Second, REGISTERS};
 use crate::store::Store;
 use crate::table::{Entry, Status};
 use crate::transaction::Transaction;
@@ -21,12 +22,13 @@ pub const STALE: u8 = 0xEE;
 /// The buffers of a new case.
 pub const DEFAULT_SIZES: Sizes = Sizes { log: 65536, db: 65536, clog: 4096, frames: 32768 };
 
-/// Four buffers, three lengths, a store or none, and four registers for transactions.
+/// Four buffers, three lengths, a store or none, four registers for transactions, and an output, which is a fifth buffer with a length.
 #[derive(Clone, Debug)]
 pub struct Executor {
     files: Files<'static>,
     store: Option<Store>,
     registers: [Option<Transaction>; REGISTERS],
+    output: Output,
 }
 
 impl Default for Executor {
@@ -55,7 +57,8 @@ pub fn run_script(script: &str) -> Result<String, Malformed> {
 impl Executor {
     /// As after `case`.
     pub fn new() -> Executor {
-        Executor { files: Files::filled(DEFAULT_SIZES, STALE), store: None, registers: Default::default() }
+        let files = Files::filled(DEFAULT_SIZES, STALE);
+        Executor { files, store: None, registers: Default::default(), output: Output::default() }
     }
 
     /// On these files, with no store.
@@ -84,6 +87,13 @@ impl Executor {
                 Answer::plain()
             }
             Command::Leaf(leaf) => self.leaf(leaf),
+            Command::Kept(kept) => {
+                self.kept(kept)?;
+                before = transcript::output_line(&self.output);
+                Answer::plain()
+            }
+            Command::Pages(pages) => self.pages(pages, &mut before),
+            Command::Second(second) => self.second(second, &mut before),
             Command::Make(register, transaction) => {
                 self.registers[*register] = Some(transaction.clone());
                 Answer::plain()
@@ -115,6 +125,7 @@ impl Executor {
             Raw::Buffers(sizes) => {
                 self.files = Files::filled(*sizes, STALE);
                 self.store = None;
+                self.output = Output::default();
             }
             Raw::Append(file, bytes) => self.files.append(*file, bytes),
             Raw::Shorten(file, len) => {
@@ -169,6 +180,65 @@ fn record_text(found: Option<Found>) -> String {
         Record::Commit(id, time) => format!("commit {} {} {next}", id.0, time.0),
         Record::Abort(id) => format!("abort {} {next}", id.0),
         Record::Checkpoint => format!("ckpt {next}"),
+    }
+}
+
+// ---- the output, status pages, and the second form of a clog
+
+impl Executor {
+    fn kept(&mut self, kept: &Kept) -> Result<(), String> {
+        match kept {
+            Kept::New(size) => self.output = Output::filled(*size, STALE),
+            Kept::Append(bytes) => self.output.append(bytes),
+            Kept::Overwrite(at, bytes) => {
+                let content = self.output.content().len();
+                let end = at.checked_add(bytes.len()).filter(|end| *end <= content);
+                let end = end.ok_or_else(|| format!("the output has {content} bytes"))?;
+                self.output.buffer_mut()[*at..end].copy_from_slice(bytes);
+            }
+        }
+        Ok(())
+    }
+
+    fn pages(&mut self, pages: &Pages, before: &mut String) -> Answer {
+        match pages {
+            Pages::Out(mark, size) => self
+                .moved(*size, before, |this, out| out.filled_by(|bytes| this.files.write_status_pages(*mark, bytes))),
+            Pages::In(size) => self.moved(*size, before, |this, out| {
+                out.filled_by(|bytes| read_status_pages(this.output.content(), bytes))
+            }),
+        }
+    }
+
+    fn second(&mut self, second: &Second, before: &mut String) -> Answer {
+        let output = &mut self.output;
+        let done = match second {
+            Second::ToSecond(mark, size) => {
+                return self.moved(*size, before, |this, out| this.files.clog_to_second(*mark, out));
+            }
+            Second::ToFirst(size) => return self.moved(*size, before, |this, out| this.output.to_first(out)),
+            Second::Record(id, status) => wordless(output.record_status(*id, *status)),
+            Second::Compact(below) => wordless(output.compact(*below)),
+            Second::Load => output.load().map(|entries| transcript::table(entries.len() as u64, &entries)),
+        };
+        *before = transcript::output_line(&self.output);
+        Answer::of(done, |values| values)
+    }
+
+    // A call is handed a new buffer, which is shown whatever comes of it, and kept where it is accepted.
+    fn moved(
+        &mut self,
+        size: usize,
+        before: &mut String,
+        call: impl FnOnce(&Executor, &mut Output) -> Result<usize, Refusal>,
+    ) -> Answer {
+        let mut out = Output::filled(size, STALE);
+        let done = call(self, &mut out);
+        *before = transcript::output_line(&out);
+        if done.is_ok() {
+            self.output = out;
+        }
+        Answer::of(done, |len| len.to_string())
     }
 }
 

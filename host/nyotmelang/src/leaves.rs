@@ -1,4 +1,4 @@
-//! Log, clog and meta page by themselves, with no store.
+//! Log, clog, status pages and meta page by themselves, with no store.
 use crate::bytes::size;
 use crate::files::{File, Files, Page, PAGE_BYTES};
 use crate::port;
@@ -158,6 +158,41 @@ impl Files<'_> {
         let values = self.changed(File::Clog, |clog, len, values| port::clog_load(clog, len, &mut table, values))?;
         Ok(Entry::read_all(&table, size(values[1])))
     }
+}
+
+// ---- status pages
+
+/// A status page, as PostgreSQL keeps them in its folder `pg_xact`, has this many bytes.
+pub const STATUS_PAGE_BYTES: usize = 8192;
+
+impl Files<'_> {
+    /// The clog written out under a mark as status pages, over the front of `out`; the answer is their length. Ids below the mark go out as committed.
+    ///
+    /// ```
+    /// use nyotmelang::{read_status_pages, CommitTime, File, Files, Refusal, Sizes, Status, TransactionId};
+    /// let mut files = Files::new(Sizes { log: 0, db: 0, clog: 64, frames: 0 });
+    /// files.reset_clog().unwrap();
+    /// files.record_status(TransactionId(5), Status::Committed(CommitTime(9))).unwrap();
+    /// files.record_status(TransactionId(6), Status::Aborted).unwrap();
+    /// let (mut pages, mut body) = ([0xEE; 8192], [0xEE; 8192]);
+    /// assert_eq!(files.write_status_pages(TransactionId(5), &mut pages), Ok(8192));
+    /// assert_eq!(pages[..3], [0x55, 0x25, 0]); // ids 0 to 4 below the mark and 5: committed, 6: aborted
+    /// assert_eq!(read_status_pages(&pages, &mut body), Ok(8192));
+    /// assert_eq!(body[..3], [0xAA, 0x3A, 0]);
+    /// assert_eq!(files.write_status_pages(TransactionId(5), &mut pages[1..]), Err(Refusal::SliceShort));
+    /// ```
+    pub fn write_status_pages(&self, mark: TransactionId, out: &mut [u8]) -> Result<usize, Refusal> {
+        let (clog, mut values) = (self.buffer(File::Clog), [0; 4]);
+        Refusal::check(port::clog_write_pages(clog, self.len(File::Clog), mark.0, out, &mut values))?;
+        Ok(size(values[0]))
+    }
+}
+
+/// Status pages read as a clog's body, without its magic, over the front of `out`; the answer is its length, which is the pages'.
+pub fn read_status_pages(pages: &[u8], out: &mut [u8]) -> Result<usize, Refusal> {
+    let mut values = [0; 4];
+    Refusal::check(port::clog_read_pages(pages, out, &mut values))?;
+    Ok(size(values[0]))
 }
 
 // ---- page 0

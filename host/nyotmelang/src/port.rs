@@ -72,7 +72,7 @@ port! {
     fn pager_advance_told(store: &[u8], mark: u64, k: usize, log: &[u8], db: &[u8], clog: &[u8], frames: &[u8], values: &mut [u64; 4]) -> u8;
 }
 
-// Log, clog and meta page by themselves.
+// Log, clog, status pages and meta page by themselves.
 #[rustfmt::skip]
 port! {
     fn log_start(log: &[u8], len: usize) -> usize;
@@ -88,6 +88,13 @@ port! {
     fn clog_record(clog: &mut [u8], len: usize, id: u64, status: u64, time: u64, values: &mut [u64; 4]) -> u8;
     fn clog_compact(clog: &mut [u8], len: usize, below: u64, values: &mut [u64; 4]) -> u8;
     fn clog_load(clog: &mut [u8], len: usize, table: &mut [u8], values: &mut [u64; 4]) -> u8;
+    fn clog_write_pages(clog: &[u8], len: usize, mark: u64, out: &mut [u8], values: &mut [u64; 4]) -> u8;
+    fn clog_read_pages(pages: &[u8], out: &mut [u8], values: &mut [u64; 4]) -> u8;
+    fn clog_to_second(clog: &[u8], len: usize, mark: u64, out: &mut [u8], values: &mut [u64; 4]) -> u8;
+    fn clog_to_first(second: &[u8], len: usize, out: &mut [u8], values: &mut [u64; 4]) -> u8;
+    fn second_record(second: &mut [u8], len: usize, id: u64, status: u64, time: u64, values: &mut [u64; 4]) -> u8;
+    fn second_compact(second: &mut [u8], len: usize, below: u64, values: &mut [u64; 4]) -> u8;
+    fn second_load(second: &mut [u8], len: usize, table: &mut [u8], values: &mut [u64; 4]) -> u8;
     fn meta_format(db: &[u8], len: usize) -> u8;
     fn meta_read(db: &[u8], len: usize, values: &mut [u64; 4]) -> u8;
     fn meta_put(buf: &mut [u8], at: usize, next: u64, time: u64, mark: u64) -> ();

@@ -1,7 +1,7 @@
 //! Why a call was refused.
 use std::fmt;
 
-/// One refusal for each of the numbers 1 to 14. A refused call changes no byte and no length, with one exception: an opening that is refused by
+/// One refusal for each number that a call can be refused with. A refused call changes no byte and no length, with one exception: an opening that is refused by
 /// [`Torn`](Refusal::Torn) or [`UnknownTag`](Refusal::UnknownTag) has laid the images before the bad record into the database.
 ///
 /// ```
@@ -9,6 +9,7 @@ use std::fmt;
 /// assert_eq!(Refusal::LogFull.number(), 4);
 /// assert_eq!(Refusal::from_number(4), Some(Refusal::LogFull));
 /// assert_eq!(Refusal::from_number(0), None); // accepted
+/// assert_eq!(Refusal::from_number(15), None); // no call has it
 /// ```
 #[derive(Clone, Copy, Debug, PartialEq, Eq, Hash)]
 #[repr(u8)]
@@ -37,16 +38,28 @@ pub enum Refusal {
     TouchedFull = 11,
     /// The format version is neither 0 nor 2.
     BadVersion = 12,
-    /// The slice for the table is shorter than the table.
+    /// The slice for what is handed out, a table, pages or a clog that is moved, is too short.
     SliceShort = 13,
     /// A store or transaction value out of form.
     OutOfForm = 14,
+    /// Status pages: the clog has an Active slot at or above the mark.
+    ActiveAbove = 19,
+    /// Status pages: a 3, which is sub-committed, in the input.
+    SubCommitted = 20,
+    /// Status pages: the input is not whole pages.
+    PartOfPage = 21,
+    /// A slot below the base is not 0, where a clog is to be moved to its second form.
+    SlotBelowBase = 22,
+    /// A magic, length, version or base that does not fit the form of a clog, or a base over its limit.
+    BadForm = 23,
+    /// Recording an id below the base.
+    IdBelowBase = 24,
 }
 
 use Refusal::*;
 
-/// Every refusal, by its number from 1 on.
-pub const REFUSALS: [Refusal; 14] = [
+/// Every refusal, ascending by its number.
+pub const REFUSALS: [Refusal; 20] = [
     Unfit,
     Torn,
     UnknownTag,
@@ -61,6 +74,12 @@ pub const REFUSALS: [Refusal; 14] = [
     BadVersion,
     SliceShort,
     OutOfForm,
+    ActiveAbove,
+    SubCommitted,
+    PartOfPage,
+    SlotBelowBase,
+    BadForm,
+    IdBelowBase,
 ];
 
 impl Refusal {
@@ -69,9 +88,9 @@ impl Refusal {
         self as u8
     }
 
-    /// The refusal with this number; none for 0, which is an acceptance, and past 14.
+    /// The refusal with this number; none for 0, which is an acceptance, and for a number that no refusal has.
     pub fn from_number(number: u8) -> Option<Refusal> {
-        REFUSALS.get((number as usize).checked_sub(1)?).copied()
+        REFUSALS.into_iter().find(|refusal| refusal.number() == number)
     }
 
     // The library's answer as a result. It is proved to answer no other number.
@@ -97,8 +116,14 @@ impl Refusal {
             BadPage => "no page has the number 4294967295",
             TouchedFull => "a transaction holds at most 64 touched pages",
             BadVersion => "the format version is neither 0 nor 2",
-            SliceShort => "the slice for the table is shorter than the table",
+            SliceShort => "the slice for what is handed out is too short",
             OutOfForm => "the store or the transaction is out of form",
+            ActiveAbove => "the clog has an Active slot at or above the mark",
+            SubCommitted => "a status in the pages is sub-committed",
+            PartOfPage => "the input is not whole pages",
+            SlotBelowBase => "a slot below the base is not 0",
+            BadForm => "a magic, length, version or base does not fit",
+            IdBelowBase => "an id below the base has no slot",
         }
     }
 }

@@ -20,6 +20,9 @@ pub enum Command {
     Case(String),
     Raw(Raw),
     Leaf(Leaf),
+    Kept(Kept),
+    Pages(Pages),
+    Second(Second),
     Make(usize, Transaction),
     Action(Action),
     Count(Action),
@@ -51,6 +54,31 @@ pub enum Leaf {
     Truncate,
     Open,
     Reset,
+    Record(TransactionId, Status),
+    Compact(TransactionId),
+    Load,
+}
+
+/// The output kept, built by hand.
+#[derive(Clone, Debug, PartialEq, Eq)]
+pub enum Kept {
+    New(usize),
+    Append(Vec<u8>),
+    Overwrite(usize, Vec<u8>),
+}
+
+/// Status pages, put into a new output: the clog's, under a mark, and the body of those that are kept.
+#[derive(Clone, Debug, PartialEq, Eq)]
+pub enum Pages {
+    Out(TransactionId, usize),
+    In(usize),
+}
+
+/// The second form of a clog: moves into a new output, and calls on the one kept.
+#[derive(Clone, Debug, PartialEq, Eq)]
+pub enum Second {
+    ToSecond(TransactionId, usize),
+    ToFirst(usize),
     Record(TransactionId, Status),
     Compact(TransactionId),
     Load,
@@ -237,6 +265,12 @@ impl Words<'_> {
                     Command::Raw(raw)
                 } else if let Some(leaf) = self.leaf(opcode)? {
                     Command::Leaf(leaf)
+                } else if let Some(kept) = self.kept(opcode)? {
+                    Command::Kept(kept)
+                } else if let Some(pages) = self.pages(opcode)? {
+                    Command::Pages(pages)
+                } else if let Some(second) = self.second(opcode)? {
+                    Command::Second(second)
                 } else {
                     Command::Action(self.action(opcode)?)
                 }
@@ -288,6 +322,35 @@ impl Words<'_> {
             "crec" => Leaf::Record(self.id()?, self.status()?),
             "ccomp" => Leaf::Compact(self.id()?),
             "cload" => Leaf::Load,
+            _ => return Ok(None),
+        }))
+    }
+
+    fn kept(&mut self, opcode: &str) -> Parsed<Option<Kept>> {
+        Ok(Some(match opcode {
+            "xobuf" => Kept::New(self.upto(MOST_BYTES)?),
+            "xo" => Kept::Append(self.hex()?),
+            "xozero" => Kept::Append(vec![0; self.upto(MOST_BYTES)?]),
+            "xoset" => Kept::Overwrite(self.num()?, self.hex()?),
+            _ => return Ok(None),
+        }))
+    }
+
+    fn pages(&mut self, opcode: &str) -> Parsed<Option<Pages>> {
+        Ok(Some(match opcode {
+            "pgout" => Pages::Out(self.id()?, self.upto(MOST_BYTES)?),
+            "pgin" => Pages::In(self.upto(MOST_BYTES)?),
+            _ => return Ok(None),
+        }))
+    }
+
+    fn second(&mut self, opcode: &str) -> Parsed<Option<Second>> {
+        Ok(Some(match opcode {
+            "second" => Second::ToSecond(self.id()?, self.upto(MOST_BYTES)?),
+            "first" => Second::ToFirst(self.upto(MOST_BYTES)?),
+            "srec" => Second::Record(self.id()?, self.status()?),
+            "scomp" => Second::Compact(self.id()?),
+            "sload" => Second::Load,
             _ => return Ok(None),
         }))
     }

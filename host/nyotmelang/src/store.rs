@@ -237,10 +237,10 @@ impl Store {
         self.table_within(files, TABLE_LIMIT)
     }
 
-    /// The whole table, handed out into room for so many entries; refused by [`Refusal::SliceShort`] where it has more.
+    /// The whole table, handed out into room for so many entries; refused by [`Refusal::SliceShort`] where it has more. Room past the table's limit is never used.
     pub fn table_within(&self, files: &Files, room: usize) -> Result<Vec<Entry>, Refusal> {
         let (log, db, clog) = read_only(files);
-        let (mut out, mut count) = (vec![0; ENTRY_BYTES * room], 0);
+        let (mut out, mut count) = (vec![0; ENTRY_BYTES * room.min(TABLE_LIMIT)], 0);
         let number = port::pager_table(&self.bytes[..], &mut out, log, db, clog, files.frames(), &mut count);
         Refusal::check(number)?;
         Ok(Entry::read_all(&out, count))

@@ -1,6 +1,7 @@
 //! Transcripts: what a command answered and what it left, four lines to a command.
 use crate::crc::crc32;
 use crate::files::{File, Files, PAGE_BYTES};
+use crate::output::Output;
 use crate::refusal::Refusal;
 use crate::store::Store;
 use crate::table::Entry;
@@ -75,6 +76,11 @@ pub fn buffers_line(files: &Files) -> String {
     let crc = |file| crc32(files.buffer(file));
     let (db, log, clog) = (crc(File::Database), crc(File::Log), crc(File::Clog));
     format!("P {db:08x} {log:08x} {clog:08x} {:08x}", crc32(files.frames()))
+}
+
+/// `O length crc whole`: an output up to its length, and its whole buffer.
+pub fn output_line(output: &Output) -> String {
+    format!("O {} {:08x} {:08x}\n", output.len(), crc32(output.content()), crc32(output.buffer()))
 }
 
 /// How many entries, and each of them. A count that was poked past the table's places tells more than there are.

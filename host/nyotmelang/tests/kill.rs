@@ -192,6 +192,55 @@ fn killed_inside_an_opening() {
     assert!(kills > 47, "{kills} kills inside openings");
 }
 
+// ---- a full disk, two at once, a new folder
+
+// The system itself refuses a log of over 4,096 bytes: the image that commit appends does not fit, half of it is written, and the log must get its old length back.
+#[test]
+fn a_file_that_may_not_grow_leaves_a_store_that_opens() {
+    let folder = Folder::new("full");
+    let carry = command(env!("CARGO_BIN_EXE_carry"));
+    let mut limited = std::process::Command::new("sh");
+    // In blocks of 512 bytes. Without the trap the signal would end the process at the first byte too many.
+    limited
+        .args(["-c", "trap '' XFSZ; ulimit -f 8; exec \"$0\" \"$@\""])
+        .arg(carry.get_program())
+        .args(carry.get_args());
+    limited.arg(&folder.0).stdin(Stdio::piped()).stdout(Stdio::piped()).stderr(Stdio::piped());
+    let mut child = limited.spawn().expect("a shell");
+    child.stdin.take().expect("its standard input").write_all(SCRIPT.as_bytes()).expect("a script is taken");
+    let (output, text) = finish(child);
+    let said = String::from_utf8_lossy(&output.stderr).into_owned();
+    assert_eq!(output.status.code(), Some(3), "{said}");
+    assert!(said.contains("store.db.wal: ") && said.contains("set back to its 17 bytes and synced"), "{said}");
+    // The first begin has two stores; the first image is the third.
+    assert_eq!(text.lines().filter(|line| line.starts_with("R 0")).count(), 6, "{text}");
+    check(&folder, 3, &text);
+}
+
+#[test]
+fn one_process_to_a_folder() {
+    let folder = Folder::new("two");
+    let mut first = start(&["--wait", "3"], &folder.0, SCRIPT);
+    let mut lines = BufReader::new(first.stdout.take().expect("its standard output")).lines();
+    assert!(lines.any(|line| line.expect("plain text") == "waiting"));
+    let second = command(env!("CARGO_BIN_EXE_carry")).arg(&folder.0).stdin(Stdio::null()).output().expect("carry runs");
+    // Killed, the first one leaves no lock behind.
+    first.kill().expect("a signal sent");
+    first.wait().expect("its end");
+    let said = String::from_utf8_lossy(&second.stderr).into_owned();
+    assert_eq!((second.status.code(), second.stdout.len()), (Some(3), 0), "{said}");
+    assert!(said.contains("another process keeps the store"), "{said}");
+    check(&folder, 3, "S - T 0 X -");
+}
+
+#[test]
+fn a_folder_in_folders_that_are_missing() {
+    let folder = Folder::new("deep");
+    let (output, text) = finish(start(&[], &folder.0.join("a/b"), "begin 1\n"));
+    assert!(output.status.success(), "{text}");
+    assert_eq!(on_disk(&folder.0.join("a/b")).expect("three files")[0].len(), 17);
+}
+
 // Without a kill, the files are those of the whole script, and they open again.
 #[test]
 fn not_killed() {

@@ -1,17 +1,20 @@
 //! The wrapper itself: refusals by name, lengths after each call, transactions that come back, borrowed buffers, scripts.
 use nyotmelang::executor::run_script;
-use nyotmelang::{Entry, File, Files, Refusal, Sizes, Status, Store, Transaction, TransactionId, REFUSALS};
+use nyotmelang::{
+    CommitTime, Entry, File, Files, Output, Refusal, Sizes, Status, Store, Transaction, TransactionId, REFUSALS,
+};
 
 const SIZES: Sizes = Sizes { log: 16384, db: 32768, clog: 64, frames: 8192 };
 
 #[test]
 fn refusals_have_their_numbers() {
-    for (i, refusal) in REFUSALS.into_iter().enumerate() {
-        assert_eq!(refusal.number() as usize, i + 1);
-        assert_eq!(Refusal::from_number(refusal.number()), Some(refusal));
-        assert!(refusal.to_string().starts_with(&format!("refused with {}: ", i + 1)));
+    let numbers: Vec<u8> = (1..=14).chain(19..=24).collect();
+    assert_eq!(REFUSALS.map(Refusal::number)[..], numbers);
+    for number in 0..=u8::MAX {
+        let refusal = Refusal::from_number(number);
+        assert_eq!(refusal.is_some(), numbers.contains(&number), "{number}");
+        assert!(refusal.is_none_or(|r| r.to_string().starts_with(&format!("refused with {number}: "))), "{number}");
     }
-    assert_eq!((Refusal::from_number(0), Refusal::from_number(15)), (None, None));
 }
 
 #[test]
@@ -52,6 +55,8 @@ fn the_table_three_ways() {
     let one_by_one: Vec<_> = (0..4).map(|i| store.entry(&files, i).expect("accepted")).collect();
     assert_eq!(one_by_one, [Some(all[0]), Some(all[1]), Some(all[2]), None]);
     assert_eq!(store.table_within(&files, 2), Err(Refusal::SliceShort));
+    // More room than memory could hold is no harm: the table never needs it.
+    assert_eq!(store.table_within(&files, usize::MAX), Ok(all));
 }
 
 #[test]
@@ -63,6 +68,41 @@ fn borrowed_buffers_are_written() {
     store.flush(&mut files, 1).expect("a flush");
     assert_eq!((files.len(File::Log), files.len(File::Database)), (8 + 4101, 8192));
     assert_eq!((&log[..8], &db[4096..], &clog[..8]), (&b"AEROWAL2"[..], &[3; 4096][..], &b"AEROCLG1"[..]));
+}
+
+// What README warns of: an opening takes a clog in its second form for a damaged one and resets it. Moved back before, nothing is lost.
+#[test]
+fn an_opening_resets_the_second_form() {
+    let mut files = Files::new(SIZES);
+    let mut store = Store::open(&mut files).expect("empty files");
+    store.begin(&mut files, TransactionId(5)).expect("a begin");
+    store.commit(&mut files).expect("a commit");
+    let (mut second, mut first) = (Output::filled(64, 0), Output::filled(64, 0));
+    files.clog_to_second(TransactionId(5), &mut second).expect("the second form");
+    second.to_first(&mut first).expect("the old form");
+    let reopened = |clog: &Output| {
+        let mut files = files.clone();
+        files.set_len(File::Clog, 0);
+        files.append(File::Clog, clog.content());
+        let entries = Store::open(&mut files).expect("accepted, alas").entries();
+        (entries, files.content(File::Clog).to_vec())
+    };
+    let kept = Entry { id: TransactionId(5), status: Status::Committed(CommitTime(0)) };
+    assert_eq!(reopened(&second), (vec![], b"AEROCLG1".to_vec()));
+    assert_eq!(reopened(&first), (vec![kept], b"AEROCLG1\0\x08".to_vec()));
+}
+
+// The greatest base fills the largest old form with zeros; one packed byte more has no place in it, however large the output is.
+#[test]
+fn the_largest_old_form() {
+    let mut second = Output::filled(64, 0);
+    second.append(b"\0\0\0\x09\x02\0\0\0\0\0\x3F\xFF\xE0");
+    let mut first = Output::filled(2_000_000, 0xEE);
+    assert_eq!(second.to_first(&mut first), Ok(1_048_576));
+    assert!(first.content().starts_with(b"AEROCLG1") && first.content()[8..].iter().all(|byte| *byte == 0));
+    assert_eq!(second.record_status(TransactionId(4_194_272), Status::Aborted), Ok(()));
+    let before = first.clone();
+    assert_eq!((second.to_first(&mut first), first), (Err(Refusal::SliceShort), before));
 }
 
 // A store whose bytes are changed at random, and files of any length: answered, whatever comes.
@@ -112,11 +152,13 @@ fn malformed_lines() {
     let wrong = ["nothing", "begin", "begin x", "begin -1", "begin +1", "begin 1 2", "begin 18446744073709551616"];
     let also =
         ["read 4294967296", "install 4", "xl 0", "xl 0g", "told begin 1", "cut 1 mktx 0 5", "table 65537", "case"];
-    for line in wrong.into_iter().chain(also) {
+    let pages = ["pgout 1", "pgin", "xo 0", "xobuf"];
+    for line in wrong.into_iter().chain(also).chain(pages) {
         let script = format!("open\n{line}\n");
         assert_eq!(run_script(&script).map_err(|m| m.line), Err(2), "{line}");
     }
     assert_eq!(run_script("case a\nxlcut 1\n").map_err(|m| m.line), Err(2));
     assert_eq!(run_script("case a\nxl 00\nxlset 1 00\n").map_err(|m| m.line), Err(3));
+    assert_eq!(run_script("case a\nxobuf 1\nxoset 0 00\n").map_err(|m| m.line), Err(3));
     assert!(run_script("# a comment\n\n   \ncase a\nxl 00\nxlset 0 ff\n").is_ok());
 }

@@ -15,11 +15,11 @@ compact-no-requires c κs = search needs
 returns : tie.Need-returns
 returns c =
     let a = c .before .before .before .args in
-    compacted-no (a .clog .now) (a .len) _ (a .h) (a .base) (a .below) (c .before .compact-no .ensures) (c .if1 .taken)
+    compacted-no (a .clog .now) (a .len) _ (a .h) (a .base) (a .below .0) (c .before .compact-no .ensures) (c .if1 .taken)
 
 clear-requires : tie.Need-clear-requires
 clear-requires c κs =
-    let e = c .before .before in
+    let e = c .before .before .before in
     let f = compact-fits _ _ _ _ (e .before .compact-no .ensures) (e .if1 .left) in
     (f .2, f .1)
 
@@ -28,11 +28,11 @@ same-length c = search needs
 
 returns-2 : tie.Need-returns-2
 returns-2 c =
-    let e = c .before .before .before .before .before in
+    let e = c .before .before .before .before .before .before in
     let a = e .before .before .before .args in
     let w = c .before .before .before .before .if2 in
-    let v : w .w ≡ a .below - a .base = ⊎-elim (λ w. omega arith) (λ w. omega arith) (w .came) in
-    compacted-done (a .clog .now) (a .len) _ (a .h) (a .base) (a .below) (w .w) _ (e .before .compact-no .ensures) (e .if1 .left) v (c .before .before .clear .ensures)
+    let v : w .w ≡ a .below .0 - a .base = ⊎-elim (λ w. omega arith) (λ w. omega arith) (w .came) in
+    compacted-done (a .clog .now) (a .len) _ (a .h) (a .base) (a .below .0) (w .w) _ (e .before .compact-no .ensures) (e .if1 .left) v (c .before .before .clear .ensures)
 
 pub compact-in-spec : {M : Type 1} → statement M
 compact-in-spec =

@@ -45,7 +45,7 @@ list-in-requires c κs =
     let f = load-fits 256 (a .h) _ _ (e .before .load-no .ensures) (e .if1 .left) in
     let n = length-take-le (a .len) (a .clog .now) (f .1) in
     let m = many (a .h) (a .base) (take (a .len) (a .clog .now)) in
-    (omega arith, omega arith, e .before .before .before .before .pre, omega arith)
+    (omega arith, omega arith, omega arith, omega arith)
 
 settle-requires : tie.Need-settle-requires
 settle-requires c κs =

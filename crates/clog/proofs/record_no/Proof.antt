@@ -3,7 +3,7 @@ use borrow.Author.Needs.{needs}
 use mathlib.Core.Path.{sym, _∙_}
 use Prim.Native.Nat.{_+_, _-_, _/_}
 use native.Mathlib.Omega.{arith}
-use borrow.Author.Tests.{le-leb, lt-leb}
+use borrow.Author.Tests.{lt-ltb, le-ltb, le-leb, lt-leb}
 use Rattle.clog.specs.Calls.{recordNo}
 use Rattle.clog.proofs.Refusals.{fit-means}
 use Rattle.clog.proofs.record_no.Statement.{statement}
@@ -16,28 +16,31 @@ returns : tie.Need-returns
 unfolding recordNo
 returns c = rw (sym (c .before .bad-length .ensures) ∙ c .if1 .taken)
 
-sub-byte : tie.Need-sub-byte
-sub-byte c = search needs
-
-sub-if2 : tie.Need-sub-if2
-sub-if2 c = omega (arith, fit-means _ _ _ (sym (c .before .bad-length .ensures) ∙ c .if1 .left))
-
 returns-2 : tie.Need-returns-2
 unfolding recordNo
 returns-2 c =
     let u = sym (c .before .before .bad-length .ensures) ∙ c .before .if1 .left in
-    let a = c .before .before .before .args in
-    let f = fit-means (a .h) (a .size) (a .len) u in
-    rw (u, le-leb (a .size) (a .h + (a .id - a .base) / 4) (omega arith))
+    rw (u, lt-ltb _ _ (c .if2 .taken))
+
+sub-if3 : tie.Need-sub-if3
+sub-if3 c = omega (arith, fit-means _ _ _ (sym (c .before .before .bad-length .ensures) ∙ c .before .if1 .left))
 
 returns-3 : tie.Need-returns-3
 unfolding recordNo
 returns-3 c =
-    let u = sym (c .before .before .bad-length .ensures) ∙ c .before .if1 .left in
-    let a = c .before .before .before .args in
+    let u = sym (c .before .before .before .bad-length .ensures) ∙ c .before .before .if1 .left in
+    let a = c .before .before .before .before .args in
     let f = fit-means (a .h) (a .size) (a .len) u in
-    rw (u, lt-leb (a .size) (a .h + (a .id - a .base) / 4) (omega arith))
+    rw (u, le-ltb (a .id) (a .base) (omega arith), le-leb (a .size) (a .h + (a .id - a .base) / 4) (omega arith))
+
+returns-4 : tie.Need-returns-4
+unfolding recordNo
+returns-4 c =
+    let u = sym (c .before .before .before .bad-length .ensures) ∙ c .before .before .if1 .left in
+    let a = c .before .before .before .before .args in
+    let f = fit-means (a .h) (a .size) (a .len) u in
+    rw (u, le-ltb (a .id) (a .base) (omega arith), lt-leb (a .size) (a .h + (a .id - a .base) / 4) (omega arith))
 
 pub record-no-spec : {M : Type 1} → statement M
 record-no-spec =
-    tie.close (tie.spec bad-length-requires returns sub-byte sub-if2 returns-2 returns-3)
+    tie.close (tie.spec bad-length-requires returns returns-2 sub-if3 returns-3 returns-4)

@@ -1,5 +1,5 @@
 //! record < SCRIPT: writes the Rust's transcript of a script, its lines R, S and D (and B for `cuts`). The port runs beside it: what the port refuses for a limit of
-//! its own, reading one record, counts and tellings are not asked of the Rust, and line R has the port's answer there. From a poke, or a page too far
+//! its own, reading one record, counts and tellings are not asked of the Rust, and line R has the port's answer there. From a poke, a command of document 02, or a page too far
 //! out for the Rust, to the next case there are no lines. Status 1: the two differ, or a line is malformed; 2: no folder can be used.
 use beside::folder::Folder;
 use beside::pair::Pair;

@@ -5,7 +5,8 @@
 //! For tests: --stop N kills this process right before the N-th store of the run, --wait N writes a line there and waits to be killed, --stop-opening N kills it
 //! right before the N-th file that the opening has changed is written.
 //!
-//! Status 1: the opening was refused. 2: a malformed line or wrong arguments. 3: a file could not be read or written.
+//! Status 1: the opening was refused. 2: a malformed line or wrong arguments. 3: a file could not be read or written, or another process keeps the store. A store that
+//! could not be written is taken back, which the message says, and no further call is made.
 use nyotmelang::disk::{Disk, Moment};
 use nyotmelang::script::{parse_line, Action, Command, Malformed};
 use std::io::{self, BufRead, Write};
@@ -67,7 +68,7 @@ fn halt_at(halt: &Halt, moment: Moment) {
 
 fn carry(halt: Halt, dir: PathBuf) -> Result<(), Failure> {
     let mut disk = Disk::new(&dir, |moment| halt_at(&halt, moment))?;
-    let show = |disk: &mut Disk<_>, command: &Command| -> Result<(), Failure> {
+    let show = |disk: &mut Disk<_, _>, command: &Command| -> Result<(), Failure> {
         let lines = disk.run(command)?.map_err(Failure::Malformed)?;
         io::stdout().write_all(lines.as_bytes())?;
         match command {

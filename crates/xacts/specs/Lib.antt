@@ -1,0 +1,4 @@
+pub mod Pages
+pub mod Calls
+pub mod RoundTrip
+pub mod Inside
