@@ -62,8 +62,8 @@ slot-last : cutHere (logged ++ (signed ++ (paged ++ (emptied ++ (slotted ++ ende
 unfolding cutHere cutOpen ran images writes committed logMagic clogMagic metaMagic metaPage bytesOf
 slot-last = refl
 
--- the pages before the record, behind their images: what is told at each kind of point is what the request says of a record that comes so late, Aborted before it is
--- whole and Committed from then on; the page has its image. So this order is free. The statement counts the record as the store after the images, and says so of ours
+-- the pages before the record, behind their images: at these five cuts what is told is what the request says of a record that comes so late, Aborted before it is whole
+-- and Committed from then on; the page has its image. That it is so at every cut is not proved. The statement counts the record as the store after the images, as in ours
 pages-first :
     cutHere (logged ++ (paged ++ (signed ++ (slotted ++ (emptied ++ ended))))) 2 1
     ∷ cutHere (logged ++ (paged ++ (signed ++ (slotted ++ (emptied ++ ended))))) 3 0
