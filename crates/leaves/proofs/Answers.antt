@@ -10,8 +10,8 @@ pub left-same : (n m : ℕ) (v w xs ys : List ℕ) → left n v xs ≡ left m w 
 left-same n m v w xs ys e =
     (ap (λ (o : Outcome). o .told .number) e, ap (λ (o : Outcome). o .told .values) e, ap (λ (o : Outcome). o .bytes) e)
 
--- a load, with the bytes that get the entries
-pub handed-same : (n m : ℕ) (v w clog clog' entries entries' : List ℕ) → handed n v clog entries ≡ handed m w clog' entries'
-    → (n ≡ m) × (v ≡ w) × (clog ≡ clog') × (entries ≡ entries')
-handed-same n m v w clog clog' entries entries' e =
-    (ap (λ (h : Handed). h .told .number) e, ap (λ (h : Handed). h .told .values) e, ap (λ (h : Handed). h .clog) e, ap (λ (h : Handed). h .entries) e)
+-- a load, with the rows that get the entries
+pub handed-same : (n m : ℕ) (v w clog clog' : List ℕ) (rows rows' : List (List ℕ)) → handed n v clog rows ≡ handed m w clog' rows'
+    → (n ≡ m) × (v ≡ w) × (clog ≡ clog') × (rows ≡ rows')
+handed-same n m v w clog clog' rows rows' e =
+    (ap (λ (h : Handed). h .told .number) e, ap (λ (h : Handed). h .told .values) e, ap (λ (h : Handed). h .clog) e, ap (λ (h : Handed). h .rows) e)

@@ -12,6 +12,7 @@ use wal::Read;
 use wal::WalRecord;
 ghost use mathlib.Core.Path.{_≡_};
 ghost use mathlib.Core.List.{[], _∷_};
+ghost use mathlib.Core.Bool.{cond};
 ghost use lib.ListN.{getD};
 ghost use lib.Seq.{sets};
 ghost use Rattle.fields.specs.Files.{fileOf};
@@ -19,13 +20,16 @@ ghost use Rattle.fields.specs.Answers.{told};
 ghost use Rattle.wal.specs.Records.{image, begin, commit, abort, checkpoint};
 ghost use Rattle.wal.specs.Reading.{recordTold, readTold, readIn, startIn};
 ghost use Rattle.wal.specs.Writing.{appended, truncated};
-ghost use Rattle.clog.specs.Calls.{opened, wiped, compacted, loaded};
+ghost use Rattle.clog.specs.Calls.{unfit, opened, wiped, compacted, loaded};
 ghost use Rattle.meta.specs.Page.{formatNo, storedTold, metaIn, metaPage};
-ghost use Rattle.packs.specs.Packs.{statusIn};
-ghost use Rattle.packs.specs.Values.{said, four};
+ghost use Rattle.rows.specs.Rows.{statusIn};
+ghost use Rattle.words.specs.Values.{said, four};
 ghost use Rattle.xacts.specs.Calls.{written, readBack};
 ghost use Rattle.shrunk.specs.Calls.{movedSecond, movedFirst, compactedSecond, loadedSecond};
-ghost use Rattle.leaves.specs.Leaves.{saidBy, left, leftBy, recordedTag, recordedSecondTag, handed, handedBy};
+ghost use Rattle.leaves.specs.Leaves.{saidBy, metaSaid, left, leftBy, recordedTag, recordedSecondTag, handed, handedBy};
+
+// The header of a clog in its second form.
+const SECOND_HEADER: usize = 13;
 
 // ---- the number and the four values
 
@@ -78,10 +82,10 @@ fn tell_read(r: Read, values: &mut [u64; 4]) -> u8
 }
 
 fn tell_stored(s: Stored, values: &mut [u64; 4]) -> u8
-    ensures { λ n. ⌜ said n (now (values .exit)) ≡ saidBy (storedTold s) ⌝ }
+    ensures { λ n. ⌜ said n (now (values .exit)) ≡ metaSaid (storedTold s) ⌝ }
 {
     match s {
-        Stored::Meta(m) => put(numbers::ACCEPTED, m.next.0, m.time.0, m.mark.0, 0, values),
+        Stored::Meta(m) => put(numbers::ACCEPTED, m.next.0, m.time.0, m.mark.0, 1, values),
         Stored::Nothing => put(numbers::ACCEPTED, 0, 0, 0, 0, values),
         Stored::Outside => put(numbers::UNFIT, 0, 0, 0, 0, values),
     }
@@ -90,14 +94,19 @@ fn tell_stored(s: Stored, values: &mut [u64; 4]) -> u8
 // ---- the log
 
 #[no_mangle]
-pub extern "C" fn log_start(log: &[u8], len: usize) -> usize
+pub extern "C" fn nyotmelang_log_start(log: &[u8], len: usize) -> usize
     ensures { λ r. ⌜ r ≡ startIn (fileOf (now (log .entry)) len) ⌝ }
 {
     wal::start_of(log, len)
 }
 
 #[no_mangle]
-pub extern "C" fn log_read(log: &[u8], len: usize, at: usize, values: &mut [u64; 4]) -> u8
+pub extern "C" fn nyotmelang_log_read(
+    log: &[u8],
+    len: usize,
+    at: usize,
+    values: &mut [u64; 4],
+) -> u8
     ensures { λ r. ⌜ said r (now (values .exit)) ≡ saidBy (readIn 4096 (fileOf (now (log .entry)) len) at) ⌝ }
 {
     let found = wal::read_record(log, len, at);
@@ -105,7 +114,12 @@ pub extern "C" fn log_read(log: &[u8], len: usize, at: usize, values: &mut [u64;
 }
 
 #[no_mangle]
-pub extern "C" fn log_append_begin(log: &mut [u8], len: usize, id: u64, values: &mut [u64; 4]) -> u8
+pub extern "C" fn nyotmelang_log_append_begin(
+    log: &mut [u8],
+    len: usize,
+    id: u64,
+    values: &mut [u64; 4],
+) -> u8
     ensures { λ r. ⌜ left r (now (values .exit)) (now (log .exit)) ≡ leftBy (appended (begin id) (fileOf (now (log .entry)) len)) ⌝ }
 {
     let a = wal::append_begin(log, len, TransactionId(id));
@@ -113,7 +127,12 @@ pub extern "C" fn log_append_begin(log: &mut [u8], len: usize, id: u64, values: 
 }
 
 #[no_mangle]
-pub extern "C" fn log_append_abort(log: &mut [u8], len: usize, id: u64, values: &mut [u64; 4]) -> u8
+pub extern "C" fn nyotmelang_log_append_abort(
+    log: &mut [u8],
+    len: usize,
+    id: u64,
+    values: &mut [u64; 4],
+) -> u8
     ensures { λ r. ⌜ left r (now (values .exit)) (now (log .exit)) ≡ leftBy (appended (abort id) (fileOf (now (log .entry)) len)) ⌝ }
 {
     let a = wal::append_abort(log, len, TransactionId(id));
@@ -121,7 +140,7 @@ pub extern "C" fn log_append_abort(log: &mut [u8], len: usize, id: u64, values: 
 }
 
 #[no_mangle]
-pub extern "C" fn log_append_commit(
+pub extern "C" fn nyotmelang_log_append_commit(
     log: &mut [u8],
     len: usize,
     id: u64,
@@ -135,7 +154,11 @@ pub extern "C" fn log_append_commit(
 }
 
 #[no_mangle]
-pub extern "C" fn log_append_checkpoint(log: &mut [u8], len: usize, values: &mut [u64; 4]) -> u8
+pub extern "C" fn nyotmelang_log_append_checkpoint(
+    log: &mut [u8],
+    len: usize,
+    values: &mut [u64; 4],
+) -> u8
     ensures { λ r. ⌜ left r (now (values .exit)) (now (log .exit)) ≡ leftBy (appended checkpoint (fileOf (now (log .entry)) len)) ⌝ }
 {
     let a = wal::append_checkpoint(log, len);
@@ -143,7 +166,7 @@ pub extern "C" fn log_append_checkpoint(log: &mut [u8], len: usize, values: &mut
 }
 
 #[no_mangle]
-pub extern "C" fn log_append_page(
+pub extern "C" fn nyotmelang_log_append_page(
     log: &mut [u8],
     len: usize,
     page: u32,
@@ -157,7 +180,7 @@ pub extern "C" fn log_append_page(
 }
 
 #[no_mangle]
-pub extern "C" fn log_truncate(log: &mut [u8], len: usize, values: &mut [u64; 4]) -> u8
+pub extern "C" fn nyotmelang_log_truncate(log: &mut [u8], len: usize, values: &mut [u64; 4]) -> u8
     ensures { λ r. ⌜ left r (now (values .exit)) (now (log .exit)) ≡ leftBy (truncated (fileOf (now (log .entry)) len)) ⌝ }
 {
     let a = wal::truncate(log, len);
@@ -167,7 +190,7 @@ pub extern "C" fn log_truncate(log: &mut [u8], len: usize, values: &mut [u64; 4]
 // ---- the clog
 
 #[no_mangle]
-pub extern "C" fn clog_open(clog: &mut [u8], len: usize, values: &mut [u64; 4]) -> u8
+pub extern "C" fn nyotmelang_clog_open(clog: &mut [u8], len: usize, values: &mut [u64; 4]) -> u8
     ensures { λ r. ⌜ left r (now (values .exit)) (now (clog .exit)) ≡ leftBy (opened (fileOf (now (clog .entry)) len)) ⌝ }
 {
     let a = clog::open(clog, len);
@@ -175,7 +198,7 @@ pub extern "C" fn clog_open(clog: &mut [u8], len: usize, values: &mut [u64; 4]) 
 }
 
 #[no_mangle]
-pub extern "C" fn clog_reset(clog: &mut [u8], len: usize, values: &mut [u64; 4]) -> u8
+pub extern "C" fn nyotmelang_clog_reset(clog: &mut [u8], len: usize, values: &mut [u64; 4]) -> u8
     ensures { λ r. ⌜ left r (now (values .exit)) (now (clog .exit)) ≡ leftBy (wiped (fileOf (now (clog .entry)) len)) ⌝ }
 {
     let a = clog::reset(clog, len);
@@ -195,9 +218,22 @@ fn status_in(tag: u64, time: u64) -> Status
     Status::Aborted
 }
 
+// What a tag that is no status is refused with: 1 where the buffer or the length is unfit, else 14.
+fn no_status(size: usize, len: usize, least: usize) -> u8
+    ensures { λ r. ⌜ r ≡ cond (unfit least size len) 1 14 ⌝ }
+{
+    if fields::is_unfit(numbers::CLOG_LIMIT, size, len) {
+        return numbers::UNFIT;
+    }
+    if len < least {
+        return numbers::UNFIT;
+    }
+    numbers::OUT_OF_FORM
+}
+
 // The clog keeps no time: it is taken so that a status is told as everywhere else.
 #[no_mangle]
-pub extern "C" fn clog_record(
+pub extern "C" fn nyotmelang_clog_record(
     clog: &mut [u8],
     len: usize,
     id: u64,
@@ -208,7 +244,14 @@ pub extern "C" fn clog_record(
     ensures { λ r. ⌜ left r (now (values .exit)) (now (clog .exit)) ≡ leftBy (recordedTag (fileOf (now (clog .entry)) len) id status time) ⌝ }
 {
     if 2 < status {
-        return put(numbers::UNFIT, 0, 0, 0, 0, values);
+        return put(
+            no_status(clog.len(), len, numbers::HEADER),
+            0,
+            0,
+            0,
+            0,
+            values,
+        );
     }
     let s = status_in(status, time);
     let a = clog::record(clog, len, TransactionId(id), s);
@@ -216,7 +259,12 @@ pub extern "C" fn clog_record(
 }
 
 #[no_mangle]
-pub extern "C" fn clog_compact(clog: &mut [u8], len: usize, below: u64, values: &mut [u64; 4]) -> u8
+pub extern "C" fn nyotmelang_clog_compact(
+    clog: &mut [u8],
+    len: usize,
+    below: u64,
+    values: &mut [u64; 4],
+) -> u8
     ensures { λ r. ⌜ left r (now (values .exit)) (now (clog .exit)) ≡ leftBy (compacted 8 0 (fileOf (now (clog .entry)) len) below) ⌝ }
 {
     let a = clog::compact(clog, len, TransactionId(below));
@@ -234,25 +282,25 @@ fn tell_load(a: Answer, entries: usize, values: &mut [u64; 4]) -> u8
 }
 
 #[no_mangle]
-pub extern "C" fn clog_load(
+pub extern "C" fn nyotmelang_clog_load(
     clog: &mut [u8],
     len: usize,
-    table: &mut [u8],
+    rows: &mut [[u64; 3]; 256],
     values: &mut [u64; 4],
 ) -> u8
-    ensures { λ r. ⌜ handed r (now (values .exit)) (now (clog .exit)) (now (table .exit)) ≡ handedBy (now (table .entry)) (loaded 256 8 0 (fileOf (now (clog .entry)) len)) ⌝ }
+    ensures { λ r. ⌜ handed r (now (values .exit)) (now (clog .exit)) (now (rows .exit)) ≡ handedBy (now (rows .entry)) (loaded 256 8 0 (fileOf (now (clog .entry)) len)) ⌝ }
 {
     let r = clog::load(clog, len);
     let a = r.answer;
     let t = r.table;
-    packs::pack_entries(t, table);
+    rows::lay_table(rows, t);
     tell_load(a, t.count, values)
 }
 
 // ---- status pages
 
 #[no_mangle]
-pub extern "C" fn clog_write_pages(
+pub extern "C" fn nyotmelang_clog_write_pages(
     clog: &[u8],
     len: usize,
     mark: u64,
@@ -266,7 +314,11 @@ pub extern "C" fn clog_write_pages(
 }
 
 #[no_mangle]
-pub extern "C" fn clog_read_pages(pages: &[u8], out: &mut [u8], values: &mut [u64; 4]) -> u8
+pub extern "C" fn nyotmelang_clog_read_pages(
+    pages: &[u8],
+    out: &mut [u8],
+    values: &mut [u64; 4],
+) -> u8
     ensures { λ r. ⌜ left r (now (values .exit)) (now (out .exit)) ≡ leftBy (readBack 8192 (now (pages .entry)) (now (out .entry))) ⌝ }
 {
     let a = xacts::read_pages(pages, out);
@@ -276,7 +328,7 @@ pub extern "C" fn clog_read_pages(pages: &[u8], out: &mut [u8], values: &mut [u6
 // ---- the second form of a clog
 
 #[no_mangle]
-pub extern "C" fn clog_to_second(
+pub extern "C" fn nyotmelang_clog_to_second(
     clog: &[u8],
     len: usize,
     mark: u64,
@@ -290,7 +342,7 @@ pub extern "C" fn clog_to_second(
 }
 
 #[no_mangle]
-pub extern "C" fn clog_to_first(
+pub extern "C" fn nyotmelang_clog_to_first(
     second: &[u8],
     len: usize,
     out: &mut [u8],
@@ -303,7 +355,7 @@ pub extern "C" fn clog_to_first(
 }
 
 #[no_mangle]
-pub extern "C" fn second_record(
+pub extern "C" fn nyotmelang_second_record(
     second: &mut [u8],
     len: usize,
     id: u64,
@@ -314,7 +366,14 @@ pub extern "C" fn second_record(
     ensures { λ r. ⌜ left r (now (values .exit)) (now (second .exit)) ≡ leftBy (recordedSecondTag (fileOf (now (second .entry)) len) id status time) ⌝ }
 {
     if status > 2 {
-        return put(numbers::UNFIT, 0, 0, 0, 0, values);
+        return put(
+            no_status(second.len(), len, SECOND_HEADER),
+            0,
+            0,
+            0,
+            0,
+            values,
+        );
     }
     let taken = status_in(status, time);
     let a = shrunk::record(second, len, TransactionId(id), taken);
@@ -322,7 +381,7 @@ pub extern "C" fn second_record(
 }
 
 #[no_mangle]
-pub extern "C" fn second_compact(
+pub extern "C" fn nyotmelang_second_compact(
     second: &mut [u8],
     len: usize,
     below: u64,
@@ -335,40 +394,40 @@ pub extern "C" fn second_compact(
 }
 
 #[no_mangle]
-pub extern "C" fn second_load(
+pub extern "C" fn nyotmelang_second_load(
     second: &mut [u8],
     len: usize,
-    table: &mut [u8],
+    rows: &mut [[u64; 3]; 256],
     values: &mut [u64; 4],
 ) -> u8
-    ensures { λ r. ⌜ handed r (now (values .exit)) (now (second .exit)) (now (table .exit)) ≡ handedBy (now (table .entry)) (loadedSecond 256 (fileOf (now (second .entry)) len)) ⌝ }
+    ensures { λ r. ⌜ handed r (now (values .exit)) (now (second .exit)) (now (rows .exit)) ≡ handedBy (now (rows .entry)) (loadedSecond 256 (fileOf (now (second .entry)) len)) ⌝ }
 {
     let loaded = shrunk::load(second, len);
     let answer = loaded.answer;
     let found = loaded.table;
-    packs::pack_entries(found, table);
+    rows::lay_table(rows, found);
     tell_load(answer, found.count, values)
 }
 
 // ---- page 0
 
 #[no_mangle]
-pub extern "C" fn meta_format(db: &[u8], len: usize) -> u8
+pub extern "C" fn nyotmelang_meta_format(db: &[u8], len: usize) -> u8
     ensures { λ r. ⌜ r ≡ formatNo 4096 (fileOf (now (db .entry)) len) ⌝ }
 {
     meta::format_no(db, len)
 }
 
 #[no_mangle]
-pub extern "C" fn meta_read(db: &[u8], len: usize, values: &mut [u64; 4]) -> u8
-    ensures { λ r. ⌜ said r (now (values .exit)) ≡ saidBy (metaIn 4096 (fileOf (now (db .entry)) len)) ⌝ }
+pub extern "C" fn nyotmelang_meta_read(db: &[u8], len: usize, values: &mut [u64; 4]) -> u8
+    ensures { λ r. ⌜ said r (now (values .exit)) ≡ metaSaid (metaIn 4096 (fileOf (now (db .entry)) len)) ⌝ }
 {
     let s = meta::read_meta(db, len);
     tell_stored(s, values)
 }
 
 #[no_mangle]
-pub extern "C" fn meta_put(buf: &mut [u8], at: usize, next: u64, time: u64, mark: u64)
+pub extern "C" fn nyotmelang_meta_put(buf: &mut [u8], at: usize, next: u64, time: u64, mark: u64)
     ensures { λ _. ⌜ now (buf .exit) ≡ sets (now (buf .entry)) at (metaPage 4096 next time mark) ⌝ }
 {
     let m = Counters {

@@ -152,9 +152,9 @@ impl Met<'_> {
     fn action(&self, action: &Action) -> String {
         let met = match (action, &self.holds) {
             (Action::Open, _) => self.open(),
+            (Action::Close, _) => Vec::new(),
             (_, None) => return "nostore".to_string(),
             (Action::Install(register), _) if self.registers[*register].is_none() => return "noreg".to_string(),
-            (Action::Close, _) => Vec::new(),
             (_, Some(holds)) => {
                 let mut met = self.call(action, holds);
                 met.extend(self.unfit().then_some(1));
@@ -213,7 +213,7 @@ impl Met<'_> {
 fn transaction_formed(transaction: &Transaction) -> bool {
     let touched = transaction.touched();
     let ascending = touched.windows(2).all(|two| two[0] < two[1]);
-    transaction.count() <= 64 && ascending && !touched.contains(&NO_PAGE)
+    touched.len() <= 64 && ascending && !touched.contains(&NO_PAGE)
 }
 
 // ---- the calls on a store

@@ -172,8 +172,9 @@ impl Pair {
             Command::Make(register, transaction) => self.registers[*register] = Some(transaction.clone()),
             Command::Action(Action::Install(register)) if accepted => self.registers[*register] = None,
             Command::Action(Action::Uninstall(register)) if accepted => {
-                self.registers[*register] =
-                    handed_out.map(|(id, touched)| Transaction::new(TransactionId(id), &touched));
+                if let Some((id, touched)) = handed_out {
+                    self.registers[*register] = Some(Transaction::new(TransactionId(id), &touched));
+                }
             }
             _ => {}
         }
@@ -296,14 +297,14 @@ pub(crate) fn same_files(port: &Files, rust: &[Vec<u8>; 3]) -> Held {
 
 fn same_store(store: &Store, files: &Files, seen: &Seen) -> Held {
     let ours = (store.pages(), store.next_id().0, store.next_time().0, store.mark().0);
-    let theirs = (seen.pages, seen.next, seen.time, seen.mark);
+    let theirs = (seen.pages.into(), seen.next, seen.time, seen.mark);
     if ours != theirs {
         return differ(format!("pages, next id, next commit time, mark: the port {ours:?}, the Rust {theirs:?}"));
     }
     if store.entries() != seen.table {
         return differ(format!("table: the port {:?}, the Rust {:?}", store.entries(), seen.table));
     }
-    let ours = store.transaction().map(|t| (t.id().0, t.touched()));
+    let ours = store.transaction().map(|t| (t.id().0, t.touched().to_vec()));
     if ours != seen.transaction {
         return differ(format!("transaction: the port {ours:?}, the Rust {:?}", seen.transaction));
     }
@@ -311,7 +312,7 @@ fn same_store(store: &Store, files: &Files, seen: &Seen) -> Held {
 }
 
 fn same_frames(store: &Store, buffer: &[u8], seen: &Seen) -> Held {
-    let mut resident: Vec<_> = store.resident().into_iter().zip(buffer.chunks_exact(PAGE_BYTES)).collect();
+    let mut resident: Vec<_> = store.resident().iter().copied().zip(buffer.chunks_exact(PAGE_BYTES)).collect();
     resident.sort_by_key(|(page, _)| *page);
     let ours: Vec<_> = resident.iter().map(|(page, _)| *page).collect();
     let theirs: Vec<_> = seen.frames.iter().map(|(page, _)| *page).collect();

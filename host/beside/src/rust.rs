@@ -200,7 +200,7 @@ impl Published {
     pub fn make(&mut self, register: usize, made: &Transaction) {
         let id = made.id().0;
         let mut transaction = new_transaction(id);
-        made.touched().into_iter().for_each(|page| transaction.mark_touched(page));
+        made.touched().iter().for_each(|page| transaction.mark_touched(*page));
         self.registers[register] = Some(transaction);
     }
 
@@ -209,7 +209,7 @@ impl Published {
         self.settle()?;
         let answer = match action {
             Action::Open => self.open()?,
-            Action::Close if self.pager.is_some() => {
+            Action::Close => {
                 self.pager = None;
                 Answer::plain()
             }
@@ -253,11 +253,14 @@ impl Published {
                 pager.write_page(*page, bytes)?;
                 String::new()
             }
-            Action::Uninstall(register) => {
-                self.registers[*register] = pager.uninstall_transaction();
-                let held = self.registers[*register].as_ref();
-                held.map_or("none".to_string(), |t| transaction_text(t.id(), &t.touched_pages().collect::<Vec<_>>()))
-            }
+            Action::Uninstall(register) => match pager.uninstall_transaction() {
+                Some(t) => {
+                    let text = transaction_text(t.id(), &t.touched_pages().collect::<Vec<_>>());
+                    self.registers[*register] = Some(t);
+                    text
+                }
+                None => "none".to_string(),
+            },
             Action::Install(register) => match self.registers[*register].take() {
                 None => return Ok(Answer::NoRegister),
                 Some(transaction) => {

@@ -1,12 +1,4 @@
-//! Little-endian numbers inside bytes.
-
-pub(crate) fn word(bytes: &[u8], at: usize) -> u64 {
-    u64::from_le_bytes(bytes[at..at + 8].try_into().expect("8 bytes"))
-}
-
-pub(crate) fn half(bytes: &[u8], at: usize) -> u32 {
-    u32::from_le_bytes(bytes[at..at + 4].try_into().expect("4 bytes"))
-}
+//! Numbers inside bytes, and numbers that count things in memory.
 
 pub(crate) fn put_word(bytes: &mut [u8], at: usize, value: u64) {
     bytes[at..at + 8].copy_from_slice(&value.to_le_bytes());

@@ -60,6 +60,13 @@ impl fmt::Display for Telling {
     }
 }
 
+// The store's part of a call's arguments.
+macro_rules! lent {
+    ($call:ident, $w:expr, $($args:expr),*) => {
+        port::$call(&$w.head, &$w.rows, &$w.resident, &$w.touched, $($args),*)
+    };
+}
+
 impl Store {
     /// The call is made whole.
     pub fn call(&mut self, files: &mut Files, call: &Call) -> Result<(), Refusal> {
@@ -85,14 +92,14 @@ impl Store {
     /// # }
     /// ```
     pub fn count(&self, files: &Files, call: &Call) -> Result<usize, Refusal> {
-        let (s, (log, db, clog), frames) = (&self.bytes()[..], read_only(files), files.frames());
+        let (w, (log, db, clog), frames) = (self.words(), read_only(files), files.frames());
         let mut values = [0; 4];
         Refusal::check(match call {
-            Call::Begin(id) => port::pager_begin_count(s, id.0, log, db, clog, frames, &mut values),
-            Call::Flush(page) => port::pager_flush_count(s, *page, log, db, clog, frames, &mut values),
-            Call::Commit => port::pager_commit_count(s, log, db, clog, frames, &mut values),
-            Call::Rollback(list) => port::pager_rollback_count(s, list, log, db, clog, frames, &mut values),
-            Call::Advance(mark) => port::pager_advance_count(s, mark.0, log, db, clog, frames, &mut values),
+            Call::Begin(id) => lent!(nyotmelang_pager_begin_count, w, id.0, log, db, clog, frames, &mut values),
+            Call::Flush(page) => lent!(nyotmelang_pager_flush_count, w, *page, log, db, clog, frames, &mut values),
+            Call::Commit => lent!(nyotmelang_pager_commit_count, w, log, db, clog, frames, &mut values),
+            Call::Rollback(list) => lent!(nyotmelang_pager_rollback_count, w, list, log, db, clog, frames, &mut values),
+            Call::Advance(mark) => lent!(nyotmelang_pager_advance_count, w, mark.0, log, db, clog, frames, &mut values),
         })?;
         Ok(size(values[0]))
     }
@@ -111,14 +118,14 @@ impl Store {
     /// # }
     /// ```
     pub fn told(&self, files: &Files, call: &Call, k: usize) -> Result<Option<Telling>, Refusal> {
-        let (s, (log, db, clog), frames) = (&self.bytes()[..], read_only(files), files.frames());
+        let (w, (log, db, clog), frames) = (self.words(), read_only(files), files.frames());
         let mut values = [0; 4];
         Refusal::check(match call {
-            Call::Begin(id) => port::pager_begin_told(s, id.0, k, log, db, clog, frames, &mut values),
-            Call::Flush(page) => port::pager_flush_told(s, *page, k, log, db, clog, frames, &mut values),
-            Call::Commit => port::pager_commit_told(s, k, log, db, clog, frames, &mut values),
-            Call::Rollback(list) => port::pager_rollback_told(s, list, k, log, db, clog, frames, &mut values),
-            Call::Advance(mark) => port::pager_advance_told(s, mark.0, k, log, db, clog, frames, &mut values),
+            Call::Begin(id) => lent!(nyotmelang_pager_begin_told, w, id.0, k, log, db, clog, frames, &mut values),
+            Call::Flush(page) => lent!(nyotmelang_pager_flush_told, w, *page, k, log, db, clog, frames, &mut values),
+            Call::Commit => lent!(nyotmelang_pager_commit_told, w, k, log, db, clog, frames, &mut values),
+            Call::Rollback(list) => lent!(nyotmelang_pager_rollback_told, w, list, k, log, db, clog, frames, &mut values),
+            Call::Advance(mark) => lent!(nyotmelang_pager_advance_told, w, mark.0, k, log, db, clog, frames, &mut values),
         })?;
         Ok(Telling::of(values))
     }
@@ -137,14 +144,14 @@ impl Store {
     /// # }
     /// ```
     pub fn cut(self, files: &mut Files, call: &Call, k: usize) -> Result<(), (Refusal, Store)> {
-        let (s, l, mut values) = (&self.bytes()[..], files.lend(), [0; 4]);
+        let (w, l, mut values) = (self.words(), files.lend(), [0; 4]);
         let (log, db, clog, frames) = (l.log, l.db, l.clog, &*l.frames);
         let number = match call {
-            Call::Begin(id) => port::pager_begin_to(s, id.0, k, log, db, clog, frames, &mut values),
-            Call::Flush(page) => port::pager_flush_to(s, *page, k, log, db, clog, frames, &mut values),
-            Call::Commit => port::pager_commit_to(s, k, log, db, clog, frames, &mut values),
-            Call::Rollback(list) => port::pager_rollback_to(s, list, k, log, db, clog, frames, &mut values),
-            Call::Advance(mark) => port::pager_advance_to(s, mark.0, k, log, db, clog, frames, &mut values),
+            Call::Begin(id) => lent!(nyotmelang_pager_begin_to, w, id.0, k, log, db, clog, frames, &mut values),
+            Call::Flush(page) => lent!(nyotmelang_pager_flush_to, w, *page, k, log, db, clog, frames, &mut values),
+            Call::Commit => lent!(nyotmelang_pager_commit_to, w, k, log, db, clog, frames, &mut values),
+            Call::Rollback(list) => lent!(nyotmelang_pager_rollback_to, w, list, k, log, db, clog, frames, &mut values),
+            Call::Advance(mark) => lent!(nyotmelang_pager_advance_to, w, mark.0, k, log, db, clog, frames, &mut values),
         };
         if let Err(refusal) = Refusal::check(number) {
             return Err((refusal, self));

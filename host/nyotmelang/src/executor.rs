@@ -1,7 +1,7 @@
 //! Runs the commands of a script on the library.
 //!
 //! Points that the format leaves open, as they are read here: a raw or a leaf command changes the lengths in an open store too; a refused call cut for good
-//! (`cutgo`) keeps its store, as any refusal does; what `cut` shows is a line `K` with the files; opening and closing, like the calls that only change memory,
+//! (`cutgo`) keeps its store, as any refusal does; `cut` has the line of the files behind its answer; opening and closing, like the calls that only change memory,
 //! have no stores, so their cut shows the files as they are.
 use crate::calls::{Call, Telling};
 use crate::crc::crc32;
@@ -101,7 +101,7 @@ impl Executor {
             Command::Action(action) => self.act(action),
             Command::Count(action) => self.count(action),
             Command::Told(k, action) => self.told(*k, action),
-            Command::Cut(k, action) => self.cut(*k, action, &mut before),
+            Command::Cut(k, action) => self.cut(*k, action),
             Command::CutGo(k, action) => self.cut_go(*k, action),
             Command::Cuts(action) => self.cuts(action, &mut before),
             Command::Poke(poke) => self.poke(poke),
@@ -252,15 +252,16 @@ impl Executor {
             let opened = Store::open(&mut self.files);
             return Answer::of(opened.map(|store| self.store = Some(store)), |()| String::new());
         }
+        if *action == Action::Close {
+            self.store = None;
+            return Answer::plain();
+        }
         let Some(store) = &mut self.store else {
             return Answer::NoStore;
         };
         let files = &mut self.files;
         let done = match action {
-            Action::Open | Action::Close => {
-                self.store = None;
-                return Answer::plain();
-            }
+            Action::Open | Action::Close => return Answer::plain(),
             Action::Stores(call) => wordless(store.call(files, call)),
             Action::AllocateId => store.allocate_id(files).map(|id| id.0.to_string()),
             Action::AllocatePage => store.allocate_page(files).map(|page| page.to_string()),
@@ -269,9 +270,14 @@ impl Executor {
             Action::Table(room) => {
                 store.table_within(files, *room).map(|entries| transcript::table(entries.len() as u64, &entries))
             }
-            Action::Uninstall(register) => store.uninstall(files).map(|transaction| {
-                self.registers[*register] = transaction;
-                self.registers[*register].as_ref().map_or("none".to_string(), transcript::transaction)
+            // With no transaction installed the register keeps what it holds.
+            Action::Uninstall(register) => store.uninstall(files).map(|handed| match handed {
+                Some(transaction) => {
+                    let shown = transcript::transaction(&transaction);
+                    self.registers[*register] = Some(transaction);
+                    shown
+                }
+                None => "none".to_string(),
             }),
             Action::Install(register) => return self.install(*register),
         };
@@ -296,19 +302,24 @@ impl Executor {
     }
 
     fn poke(&mut self, poke: &Poke) -> Answer {
-        if let Poke::FrameBuffer(size) = poke {
-            self.files.resize_frames(*size, STALE);
-            return Answer::plain();
+        // Files and buffers need no store.
+        match poke {
+            Poke::FrameBuffer(size) => {
+                self.files.resize_frames(*size, STALE);
+                return Answer::plain();
+            }
+            Poke::Length(file, len) => {
+                self.files.set_len(*file, *len);
+                self.agree();
+                return Answer::plain();
+            }
+            _ => {}
         }
         let Some(store) = &mut self.store else {
             return Answer::NoStore;
         };
         match poke {
-            Poke::FrameBuffer(_) => {}
-            Poke::Length(file, len) => {
-                self.files.set_len(*file, *len);
-                store.put_lengths(self.files.lengths());
-            }
+            Poke::FrameBuffer(_) | Poke::Length(_, _) => {}
             Poke::Pages(pages) => store.put_pages(*pages),
             Poke::NextId(id) => store.put_next_id(*id),
             Poke::NextTime(time) => store.put_next_time(*time),
@@ -358,13 +369,13 @@ impl Executor {
         }
     }
 
-    fn cut(&self, k: usize, action: &Action, before: &mut String) -> Answer {
+    // What the cut leaves in the files stands behind its answer; the state does not change.
+    fn cut(&self, k: usize, action: &Action) -> Answer {
         let mut left = self.clone();
-        let answer = left.cut_go(k, action);
-        if let Answer::Accepted(_) = answer {
-            let _ = writeln!(before, "K {}", transcript::files_line(&left.files));
+        match left.cut_go(k, action) {
+            Answer::Accepted(_) => Answer::Accepted(transcript::files_line(&left.files)),
+            other => other,
         }
-        answer
     }
 
     fn cut_go(&mut self, k: usize, action: &Action) -> Answer {

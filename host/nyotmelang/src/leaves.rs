@@ -3,7 +3,7 @@ use crate::bytes::size;
 use crate::files::{File, Files, Page, PAGE_BYTES};
 use crate::port;
 use crate::refusal::Refusal;
-use crate::table::{CommitTime, Entry, Status, TransactionId, ENTRY_BYTES, TABLE_LIMIT};
+use crate::table::{CommitTime, Entry, Status, TransactionId, TABLE_LIMIT};
 
 /// A log record. The bytes of an image that is read are that part of the log, not a copy.
 #[derive(Clone, Copy, Debug, PartialEq, Eq)]
@@ -42,7 +42,7 @@ pub struct Counters {
 impl Files<'_> {
     /// The place of the first record: 8 after the magic, or the length where the log has no record to read.
     pub fn log_start(&self) -> usize {
-        port::log_start(self.buffer(File::Log), self.len(File::Log))
+        port::nyotmelang_log_start(self.buffer(File::Log), self.len(File::Log))
     }
 
     /// The record at a place; none at the end of the log.
@@ -59,7 +59,7 @@ impl Files<'_> {
     /// ```
     pub fn read_record(&self, place: usize) -> Result<Option<Found<'_>>, Unread> {
         let (log, mut values) = (self.buffer(File::Log), [0; 4]);
-        let number = port::log_read(log, self.len(File::Log), place, &mut values);
+        let number = port::nyotmelang_log_read(log, self.len(File::Log), place, &mut values);
         if let Err(refusal) = Refusal::check(number) {
             return Err(Unread { refusal, missing: size(values[0]) });
         }
@@ -87,18 +87,18 @@ impl Files<'_> {
     /// ```
     pub fn append_record(&mut self, record: &Record) -> Result<(), Refusal> {
         self.changed(File::Log, |log, len, values| match record {
-            Record::Image { page, bytes } => port::log_append_page(log, len, *page, bytes, values),
-            Record::Begin(id) => port::log_append_begin(log, len, id.0, values),
-            Record::Commit(id, time) => port::log_append_commit(log, len, id.0, time.0, values),
-            Record::Abort(id) => port::log_append_abort(log, len, id.0, values),
-            Record::Checkpoint => port::log_append_checkpoint(log, len, values),
+            Record::Image { page, bytes } => port::nyotmelang_log_append_page(log, len, *page, bytes, values),
+            Record::Begin(id) => port::nyotmelang_log_append_begin(log, len, id.0, values),
+            Record::Commit(id, time) => port::nyotmelang_log_append_commit(log, len, id.0, time.0, values),
+            Record::Abort(id) => port::nyotmelang_log_append_abort(log, len, id.0, values),
+            Record::Checkpoint => port::nyotmelang_log_append_checkpoint(log, len, values),
         })
         .map(|_| ())
     }
 
     /// The log becomes its magic alone.
     pub fn truncate_log(&mut self) -> Result<(), Refusal> {
-        self.changed(File::Log, port::log_truncate).map(|_| ())
+        self.changed(File::Log, port::nyotmelang_log_truncate).map(|_| ())
     }
 
     // A leaf call on one file; where it is accepted the first value is the file's new length.
@@ -124,11 +124,11 @@ fn page_at(log: &[u8], at: usize) -> &Page {
 impl Files<'_> {
     /// A clog that is too short or has another magic is reset; any other stays.
     pub fn open_clog(&mut self) -> Result<(), Refusal> {
-        self.changed(File::Clog, port::clog_open).map(|_| ())
+        self.changed(File::Clog, port::nyotmelang_clog_open).map(|_| ())
     }
 
     pub fn reset_clog(&mut self) -> Result<(), Refusal> {
-        self.changed(File::Clog, port::clog_reset).map(|_| ())
+        self.changed(File::Clog, port::nyotmelang_clog_reset).map(|_| ())
     }
 
     /// The status of an id is recorded; the time is not kept in the clog.
@@ -144,19 +144,19 @@ impl Files<'_> {
     /// ```
     pub fn record_status(&mut self, id: TransactionId, status: Status) -> Result<(), Refusal> {
         let (tag, time) = status.tagged();
-        self.changed(File::Clog, |clog, len, values| port::clog_record(clog, len, id.0, tag, time, values)).map(|_| ())
+        self.changed(File::Clog, |clog, len, values| port::nyotmelang_clog_record(clog, len, id.0, tag, time, values)).map(|_| ())
     }
 
     /// The statuses of all ids below this one are forgotten.
     pub fn compact_clog(&mut self, below: TransactionId) -> Result<(), Refusal> {
-        self.changed(File::Clog, |clog, len, values| port::clog_compact(clog, len, below.0, values)).map(|_| ())
+        self.changed(File::Clog, |clog, len, values| port::nyotmelang_clog_compact(clog, len, below.0, values)).map(|_| ())
     }
 
     /// Every status in the clog; Active becomes Aborted, in the clog too.
     pub fn load_clog(&mut self) -> Result<Vec<Entry>, Refusal> {
-        let mut table = [0; ENTRY_BYTES * TABLE_LIMIT];
-        let values = self.changed(File::Clog, |clog, len, values| port::clog_load(clog, len, &mut table, values))?;
-        Ok(Entry::read_all(&table, size(values[1])))
+        let mut rows = [[0; 3]; TABLE_LIMIT];
+        let values = self.changed(File::Clog, |clog, len, values| port::nyotmelang_clog_load(clog, len, &mut rows, values))?;
+        Ok(Entry::all(&rows, size(values[1])))
     }
 }
 
@@ -183,7 +183,7 @@ impl Files<'_> {
     /// ```
     pub fn write_status_pages(&self, mark: TransactionId, out: &mut [u8]) -> Result<usize, Refusal> {
         let (clog, mut values) = (self.buffer(File::Clog), [0; 4]);
-        Refusal::check(port::clog_write_pages(clog, self.len(File::Clog), mark.0, out, &mut values))?;
+        Refusal::check(port::nyotmelang_clog_write_pages(clog, self.len(File::Clog), mark.0, out, &mut values))?;
         Ok(size(values[0]))
     }
 }
@@ -191,7 +191,7 @@ impl Files<'_> {
 /// Status pages read as a clog's body, without its magic, over the front of `out`; the answer is its length, which is the pages'.
 pub fn read_status_pages(pages: &[u8], out: &mut [u8]) -> Result<usize, Refusal> {
     let mut values = [0; 4];
-    Refusal::check(port::clog_read_pages(pages, out, &mut values))?;
+    Refusal::check(port::nyotmelang_clog_read_pages(pages, out, &mut values))?;
     Ok(size(values[0]))
 }
 
@@ -200,7 +200,7 @@ pub fn read_status_pages(pages: &[u8], out: &mut [u8]) -> Result<usize, Refusal>
 impl Files<'_> {
     /// Refused by [`Refusal::BadVersion`] where a meta page of another version than 0 or 2 stands.
     pub fn check_format(&self) -> Result<(), Refusal> {
-        Refusal::check(port::meta_format(self.buffer(File::Database), self.len(File::Database)))
+        Refusal::check(port::nyotmelang_meta_format(self.buffer(File::Database), self.len(File::Database)))
     }
 
     /// The counters of page 0; all are 0 where no meta page stands.
@@ -212,17 +212,18 @@ impl Files<'_> {
     /// put_meta(&mut page, 0, counters);
     /// let mut files = Files::new(Sizes { log: 0, db: 4096, clog: 0, frames: 0 });
     /// files.append(File::Database, &page);
-    /// assert_eq!(files.read_meta(), Ok(counters));
+    /// assert_eq!(files.read_meta(), Ok(Some(counters)));
     /// ```
-    pub fn read_meta(&self) -> Result<Counters, Refusal> {
+    pub fn read_meta(&self) -> Result<Option<Counters>, Refusal> {
         let mut values = [0; 4];
-        Refusal::check(port::meta_read(self.buffer(File::Database), self.len(File::Database), &mut values))?;
-        let [next, time, mark, _] = values;
-        Ok(Counters { next: TransactionId(next), time: CommitTime(time), mark: TransactionId(mark) })
+        Refusal::check(port::nyotmelang_meta_read(self.buffer(File::Database), self.len(File::Database), &mut values))?;
+        let [next, time, mark, there] = values;
+        let counters = Counters { next: TransactionId(next), time: CommitTime(time), mark: TransactionId(mark) };
+        Ok((there != 0).then_some(counters))
     }
 }
 
 /// A meta page is put into the bytes from a place on; what does not fit is dropped.
 pub fn put_meta(bytes: &mut [u8], at: usize, counters: Counters) {
-    port::meta_put(bytes, at, counters.next.0, counters.time.0, counters.mark.0);
+    port::nyotmelang_meta_put(bytes, at, counters.next.0, counters.time.0, counters.mark.0);
 }

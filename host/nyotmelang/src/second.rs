@@ -7,7 +7,7 @@ use crate::files::{File, Files};
 use crate::output::Output;
 use crate::port;
 use crate::refusal::Refusal;
-use crate::table::{Entry, Status, TransactionId, ENTRY_BYTES, TABLE_LIMIT};
+use crate::table::{Entry, Status, TransactionId, TABLE_LIMIT};
 
 impl Files<'_> {
     /// The clog, moved to the second form under a mark, goes over the front of an output; its length there is the answer.
@@ -24,7 +24,7 @@ impl Files<'_> {
     /// ```
     pub fn clog_to_second(&self, mark: TransactionId, out: &mut Output) -> Result<usize, Refusal> {
         let (clog, len) = (self.buffer(File::Clog), self.len(File::Clog));
-        out.changed(|out, _, values| port::clog_to_second(clog, len, mark.0, out, values)).map(|values| size(values[0]))
+        out.changed(|out, _, values| port::nyotmelang_clog_to_second(clog, len, mark.0, out, values)).map(|values| size(values[0]))
     }
 }
 
@@ -33,7 +33,7 @@ impl Output {
     /// The old form of it goes over the front of another output; its length there is the answer.
     pub fn to_first(&self, out: &mut Output) -> Result<usize, Refusal> {
         let (second, len) = (self.buffer(), self.len());
-        out.changed(|out, _, values| port::clog_to_first(second, len, out, values)).map(|values| size(values[0]))
+        out.changed(|out, _, values| port::nyotmelang_clog_to_first(second, len, out, values)).map(|values| size(values[0]))
     }
 
     /// The status of an id is recorded; the time is not kept.
@@ -48,18 +48,18 @@ impl Output {
     /// ```
     pub fn record_status(&mut self, id: TransactionId, status: Status) -> Result<(), Refusal> {
         let (tag, time) = status.tagged();
-        self.changed(|second, len, values| port::second_record(second, len, id.0, tag, time, values)).map(|_| ())
+        self.changed(|second, len, values| port::nyotmelang_second_record(second, len, id.0, tag, time, values)).map(|_| ())
     }
 
     /// The statuses of all ids below this one are forgotten; base and length stay.
     pub fn compact(&mut self, below: TransactionId) -> Result<(), Refusal> {
-        self.changed(|second, len, values| port::second_compact(second, len, below.0, values)).map(|_| ())
+        self.changed(|second, len, values| port::nyotmelang_second_compact(second, len, below.0, values)).map(|_| ())
     }
 
     /// Every status in the file; Active becomes Aborted, in the file too.
     pub fn load(&mut self) -> Result<Vec<Entry>, Refusal> {
-        let mut table = [0; ENTRY_BYTES * TABLE_LIMIT];
-        let values = self.changed(|second, len, values| port::second_load(second, len, &mut table, values))?;
-        Ok(Entry::read_all(&table, size(values[1])))
+        let mut rows = [[0; 3]; TABLE_LIMIT];
+        let values = self.changed(|second, len, values| port::nyotmelang_second_load(second, len, &mut rows, values))?;
+        Ok(Entry::all(&rows, size(values[1])))
     }
 }

@@ -1,9 +1,8 @@
 //! Ids, times, and the entries of the status table.
-use crate::bytes::{put_word, word};
 use std::fmt;
 
-/// An entry has this many bytes in a packed store: id, tag and time, 8 each.
-pub const ENTRY_BYTES: usize = 24;
+/// An entry as it stands in a store: id, tag and time. The tag is 0 for Active, 1 for Committed, 2 for Aborted; the time is 0 where it is not Committed.
+pub type Row = [u64; 3];
 
 /// A table has at most this many entries.
 pub const TABLE_LIMIT: usize = 256;
@@ -29,7 +28,7 @@ pub enum Status {
 }
 
 impl Status {
-    // Tag and time as they stand in an entry; the time is 0 where nothing is committed.
+    // Tag and time as they stand in a row; the time is 0 where nothing is committed.
     pub(crate) fn tagged(self) -> (u64, u64) {
         match self {
             Status::Active => (0, 0),
@@ -46,26 +45,25 @@ pub struct Entry {
 }
 
 impl Entry {
-    // The library writes no tag above 2; such a tag in poked bytes is shown as Aborted, and the library answers the store with 14.
-    pub(crate) fn read(bytes: &[u8]) -> Entry {
-        let status = match word(bytes, 8) {
+    // The library writes no tag above 2; such a tag in a poked row is shown as Aborted, and the library answers the store with 14.
+    pub(crate) fn of(row: Row) -> Entry {
+        let [id, tag, time] = row;
+        let status = match tag {
             0 => Status::Active,
-            1 => Status::Committed(CommitTime(word(bytes, 16))),
+            1 => Status::Committed(CommitTime(time)),
             _ => Status::Aborted,
         };
-        Entry { id: TransactionId(word(bytes, 0)), status }
+        Entry { id: TransactionId(id), status }
     }
 
-    pub(crate) fn put(self, bytes: &mut [u8]) {
+    pub(crate) fn row(self) -> Row {
         let (tag, time) = self.status.tagged();
-        for (i, value) in [self.id.0, tag, time].into_iter().enumerate() {
-            put_word(bytes, 8 * i, value);
-        }
+        [self.id.0, tag, time]
     }
 
-    // The first so many entries, one after the other.
-    pub(crate) fn read_all(bytes: &[u8], count: usize) -> Vec<Entry> {
-        bytes.chunks_exact(ENTRY_BYTES).take(count).map(Entry::read).collect()
+    // The first so many rows.
+    pub(crate) fn all(rows: &[Row], count: usize) -> Vec<Entry> {
+        rows.iter().take(count).copied().map(Entry::of).collect()
     }
 }
 

@@ -57,7 +57,7 @@ pub fn store_line(store: Option<&Store>, files: &Files) -> String {
         s.next_time().0,
         s.mark().0,
         table(s.entry_count(), &s.entries()),
-        s.transaction().map_or("-".to_string(), |t| transaction(&t)),
+        s.held().map_or("-".to_string(), |id| format!("{} {}", id.0, spaced(s.touched_count(), &s.touched()))),
         frames(s, files.frames()),
     )
 }
@@ -90,12 +90,12 @@ pub fn table(count: u64, entries: &[Entry]) -> String {
 
 /// `ID n P1..Pn`.
 pub fn transaction(t: &Transaction) -> String {
-    format!("{} {}", t.id().0, spaced(t.count(), &t.touched()))
+    format!("{} {}", t.id().0, spaced(t.touched().len() as u64, t.touched()))
 }
 
 // How many frames, and each as `page:crc`, ascending by page number and not by slot.
 fn frames(store: &Store, buffer: &[u8]) -> String {
-    let mut resident: Vec<_> = store.resident().into_iter().enumerate().map(|(slot, page)| (page, slot)).collect();
+    let mut resident: Vec<_> = store.resident().iter().enumerate().map(|(slot, page)| (*page, slot)).collect();
     resident.sort();
     let shown: Vec<_> = resident
         .into_iter()

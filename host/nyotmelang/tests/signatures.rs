@@ -20,11 +20,21 @@ fn plain(text: &str) -> String {
 // A type of Rust or Rattle as the C types it is to a host.
 fn c_type(kind: &str) -> &'static str {
     match kind {
+        "&mut [u64; 12]" => "nyotmelang_head *",
+        "&[u64; 12]" => "const nyotmelang_head *",
+        "&mut [[u64; 3]; 256]" => "nyotmelang_row *",
+        "&[[u64; 3]; 256]" => "const nyotmelang_row *",
+        "&mut [u32; 64]" => "uint32_t *",
+        "&[u32; 64]" => "const uint32_t *",
+        "&[u64; 64]" => "const uint64_t *",
+        "&mut [[u64; 3]]" => "nyotmelang_row *, size_t",
+        "&mut [u32]" => "uint32_t *, size_t",
         "&mut [u8]" => "uint8_t *, size_t",
         "&[u8]" => "const uint8_t *, size_t",
         "&[u32]" => "const uint32_t *, size_t",
         "&[u8; 4096]" => "const uint8_t *",
-        "&mut [u64; 4]" | "&mut u64" => "uint64_t *",
+        "&mut [u8; 4096]" => "uint8_t *",
+        "&mut [u64; 4]" | "&mut [u64; 64]" | "&mut u64" => "uint64_t *",
         "&mut usize" => "size_t *",
         "&mut u32" => "uint32_t *",
         "usize" => "size_t",
@@ -91,7 +101,7 @@ fn the_same_everywhere() {
     let proved = rust_like(&sources(), "pub extern \"C\" fn ");
     // The part of the macro that makes the functions has none of them.
     let port = read("host/nyotmelang/src/port.rs");
-    let port = rust_like(port.split_once("// The calls of a pager.").expect("the functions").1, " fn ");
+    let port = rust_like(port.split_once("// The calls of a pager, on a store").expect("the functions").1, " fn ");
     let header = header(&declarations(&read("host/include/nyotmelang.h")));
     assert_eq!(header.len(), 53);
     for (name, signature) in &header {

@@ -1,7 +1,7 @@
 //! The wrapper itself: refusals by name, lengths after each call, transactions that come back, borrowed buffers, scripts.
 use nyotmelang::executor::run_script;
 use nyotmelang::{
-    CommitTime, Entry, File, Files, Output, Refusal, Sizes, Status, Store, Transaction, TransactionId, REFUSALS,
+    CommitTime, Entry, File, Files, Output, Refusal, Sizes, Status, Store, Transaction, TransactionId, Words, REFUSALS,
 };
 
 const SIZES: Sizes = Sizes { log: 16384, db: 32768, clog: 64, frames: 8192 };
@@ -105,7 +105,18 @@ fn the_largest_old_form() {
     assert_eq!((second.to_first(&mut first), first), (Err(Refusal::SliceShort), before));
 }
 
-// A store whose bytes are changed at random, and files of any length: answered, whatever comes.
+// One byte of a word of a store.
+fn change(words: &mut Words, at: usize, x: u64) {
+    let mixed = |word: u64| word & !(255 << (8 * (x >> 61))) | (x & 255) << (8 * (x >> 61));
+    match at {
+        0..12 => words.head[at] = mixed(words.head[at]),
+        12..780 => words.rows[(at - 12) / 3][at % 3] = mixed(words.rows[(at - 12) / 3][at % 3]),
+        780..844 => words.resident[at - 780] = mixed(words.resident[at - 780].into()) as u32,
+        _ => words.touched[at - 844] = mixed(words.touched[at - 844]),
+    }
+}
+
+// A store whose words are changed at random, and files of any length: answered, whatever comes.
 #[test]
 fn any_bytes_are_answered() {
     let mut x = 88172645463325252u64;
@@ -117,10 +128,8 @@ fn any_bytes_are_answered() {
             x ^= x << 13;
             x ^= x >> 7;
             x ^= x << 17;
-            store.bytes_mut()[(x >> 20) as usize % 6748] = x as u8;
+            change(store.words_mut(), (x >> 20) as usize % 908, x);
         }
-        // No call wrote these bytes: what says nothing in them, as a time beside Active, is 0 after the first refusal.
-        assert!(store.flush(&mut files, u32::MAX).is_err());
         let before = store.clone();
         let done = store.begin(&mut files, TransactionId(x % 250));
         accepted += done.is_ok() as usize;

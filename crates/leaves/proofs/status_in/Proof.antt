@@ -1,6 +1,6 @@
 -- `leaves::status_in` meets its contract: each tag by itself. Assumes nothing.
 use borrow.Author.Tests.{eq-eqb, ne-eqb}
-use Rattle.packs.specs.Packs.{statusIn}
+use Rattle.rows.specs.Rows.{statusIn}
 use Rattle.leaves.proofs.status_in.Statement.{statement}
 use Rattle.leaves.proofs.status_in.Tie as tie
 

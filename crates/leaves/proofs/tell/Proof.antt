@@ -1,5 +1,5 @@
 -- `leaves::tell` meets its contract, by cases. Assumes nothing.
-use Rattle.packs.specs.Values.{four}
+use Rattle.words.specs.Values.{four}
 use Rattle.leaves.specs.Leaves.{saidBy}
 use borrow.Author.Needs.{needs}
 use Rattle.leaves.proofs.tell.Statement.{statement}

@@ -1,5 +1,5 @@
 -- `leaves::tell_load` meets its contract, by cases. Assumes nothing.
-use Rattle.packs.specs.Values.{four}
+use Rattle.words.specs.Values.{four}
 use borrow.Author.Needs.{needs}
 use Rattle.leaves.proofs.tell_load.Statement.{statement}
 use Rattle.leaves.proofs.tell_load.Tie as tie

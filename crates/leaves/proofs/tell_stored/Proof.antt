@@ -1,6 +1,6 @@
 -- `leaves::tell_stored` meets its contract, by cases. Assumes nothing.
-use Rattle.packs.specs.Values.{four}
-use Rattle.leaves.specs.Leaves.{saidBy}
+use Rattle.words.specs.Values.{four}
+use Rattle.leaves.specs.Leaves.{metaSaid}
 use borrow.Author.Needs.{needs}
 use Rattle.leaves.proofs.tell_stored.Statement.{statement}
 use Rattle.leaves.proofs.tell_stored.Tie as tie
@@ -24,15 +24,15 @@ put-requires-3 : tie.Need-put-requires-3
 put-requires-3 c κs = search needs
 
 returns : tie.Need-returns
-unfolding saidBy four
+unfolding metaSaid four
 returns c = rw (c .before .before .before .s .given .1) (c .put .ensures)
 
 returns-2 : tie.Need-returns-2
-unfolding saidBy four
+unfolding metaSaid four
 returns-2 c = rw (c .before .before .enum-told .given .1) (c .put2 .ensures)
 
 returns-3 : tie.Need-returns-3
-unfolding saidBy four
+unfolding metaSaid four
 returns-3 c = rw (c .before .before .enum-told2 .given .1) (c .put3 .ensures)
 
 pub tell-stored-spec : {M : Type 1} → statement M

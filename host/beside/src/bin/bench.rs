@@ -18,10 +18,13 @@ struct State {
     entries: u64,
     frames: u32,
     touched: bool,
+    /// The pages come in falling order.
+    falling: bool,
 }
 
-const TYPICAL: State = State { entries: 16, frames: 8, touched: false };
-const FULLEST: State = State { entries: 256, frames: 64, touched: true };
+const TYPICAL: State = State { entries: 16, frames: 8, touched: false, falling: false };
+const FULLEST: State = State { entries: 256, frames: 64, touched: true, falling: false };
+const FALLING: State = State { falling: true, ..FULLEST };
 
 /// One of the two sides, with a store open.
 trait Side {
@@ -98,7 +101,8 @@ fn bring(side: &mut impl Side, state: State) {
     if state.touched {
         side.begin(state.entries);
     }
-    for page in 0..state.frames {
+    for i in 0..state.frames {
+        let page = if state.falling { state.frames - 1 - i } else { i };
         side.write(page);
         if state.touched {
             side.flush(page);
@@ -230,6 +234,16 @@ fn long_log() -> Vec<u8> {
     log
 }
 
+/// A log of begin records up to 16 MiB, of so many ids in turn.
+fn begun_log(ids: u64) -> Vec<u8> {
+    let mut log = b"AEROWAL2".to_vec();
+    for id in (1..=ids).cycle().take((16 * MEBI - 8) / 9) {
+        log.push(2);
+        log.extend(id.to_le_bytes());
+    }
+    log
+}
+
 /// A clog of 1 MiB with 256 ids, and a meta page beside it.
 fn full_clog() -> (Vec<u8>, Vec<u8>) {
     let mut clog = b"AEROCLG1".to_vec();
@@ -257,6 +271,8 @@ fn main() {
     calls(f, rounds, "page write, typical", PAGE_BYTES, TYPICAL, 20_000, |s, _| s.write(3));
     calls(f, rounds, "page read, fullest", PAGE_BYTES, FULLEST, 5_000, |s, _| s.read(3));
     calls(f, rounds, "page write, fullest", PAGE_BYTES, FULLEST, 5_000, |s, _| s.write(3));
+    calls(f, rounds, "page read, fullest, falling", PAGE_BYTES, FALLING, 5_000, |s, _| s.read(3));
+    calls(f, rounds, "page write, fullest, falling", PAGE_BYTES, FALLING, 5_000, |s, _| s.write(3));
     calls(f, rounds, "begin, 8 writes and flushes, commit", 26 * PAGE_BYTES, TYPICAL, 100, |s, _| {
         s.begin(5);
         (0..8).for_each(|page| {
@@ -277,6 +293,11 @@ fn main() {
     calls(f, rounds, "advance", 2 * PAGE_BYTES, TYPICAL, 500, |s, i| s.advance(i + 1));
     let log = long_log();
     opening(f, rounds, "opening, a log of 16 MiB", log.len(), [&log, &[], &[]]);
+    for ids in [16, 256] {
+        let log = begun_log(ids);
+        let name = format!("opening, begin records of {ids} ids");
+        opening(f, rounds.min(3), &name, log.len(), [&log, &[], &[]]);
+    }
     let (db, clog) = full_clog();
     opening(f, rounds, "opening, a full clog", clog.len(), [&[], &db, &clog]);
 }

@@ -1,0 +1,3 @@
+-- The laws of the crate's definitions.
+pub mod Begun
+pub mod Flushed

@@ -1,0 +1,2 @@
+pub mod Keyon
+pub mod Inside

@@ -1,0 +1,3 @@
+pub mod Laws
+pub mod Worlds
+pub mod Answers

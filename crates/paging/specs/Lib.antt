@@ -1,2 +1,0 @@
-pub mod Paging
-pub mod Inside

@@ -1,0 +1,4 @@
+-- The laws of the crate's definitions, which callers' proofs cite.
+pub mod Laws
+pub mod Several
+pub mod Answers

@@ -1,0 +1,3 @@
+pub mod Still
+pub mod Entries
+pub mod Inside
