@@ -25,7 +25,7 @@ use world::Lens;
 const MOST: usize = 133;
 
 // What a call changes in the table or in the touched pages: nothing, a status is set, a page is marked.
-#[derive(Drop)]
+#[derive(Clone, Copy)]
 pub enum Change {
     Same,
     Set(TransactionId, Status),
@@ -35,7 +35,7 @@ pub enum Change {
 // What a call would do: its number; its stores; the pages whose frames get the file's bytes back; whether page 0 becomes resident and its frame gets the plan's
 // counters, and the slot of that frame; the change; the head after it but for the lengths of the files and the counts of what is changed. A refused call has no
 // stores, changes nothing and has the old head.
-#[derive(Drop)]
+#[derive(Clone, Copy)]
 pub struct Made {
     pub number: u8,
     pub plan: Plan,

@@ -38,7 +38,7 @@ fn sum(s: &[u8]) -> u64 {
 }
 
 // A store and its four buffers.
-#[derive(Drop)]
+#[derive(Clone, Copy)]
 struct Run {
     store: Store,
     log: [u8; 16384],
@@ -409,10 +409,10 @@ fn two_data_pages(r: Run) -> Run {
 
 // The database is a page of zeros and the byte 07, log and clog are their headers; what stands past the lengths is of no account.
 fn start() -> Run {
-    let mut log = [0x_eEu8; 16384];
-    let mut db = [0x_eEu8; 20480];
-    let mut clog = [0x_eEu8; 64];
-    let frames = [0x_eEu8; 20480];
+    let mut log = [0xEEu8; 16384];
+    let mut db = [0xEEu8; 20480];
+    let mut clog = [0xEEu8; 64];
+    let frames = [0xEEu8; 20480];
     fields::zero_fill(&mut db, 0, 4096);
     db[4096] = 7;
     let m = fields::length_of(wal::truncate(&mut log, 0));

@@ -18,7 +18,7 @@ use table::{Entry, Status, Table};
 const TABLE_LIMIT: usize = 256;
 
 // What a load answers, and the table: empty where it is refused.
-#[derive(Drop)]
+#[derive(Clone, Copy)]
 pub struct Loaded {
     pub answer: Answer,
     pub table: Table,

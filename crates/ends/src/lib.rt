@@ -25,7 +25,7 @@ use table::Status;
 
 // What such a call would do and leave, but for page 0: the head, the number that the table gives, the change, the stores, and the pages that get the file's bytes
 // back.
-#[derive(Drop)]
+#[derive(Clone, Copy)]
 pub struct Ending {
     pub head: Head,
     pub full: u8,

@@ -10,15 +10,15 @@ ghost use Rattle.fields.specs.Files.{unfit};
 ghost use Rattle.fields.specs.Answers.{length_of};
 
 // A transaction's number. It is never accepted as a time.
-#[derive(Drop)]
+#[derive(Clone, Copy)]
 pub struct TransactionId(pub u64);
 
 // A commit's time. It is never accepted as a transaction's number.
-#[derive(Drop)]
+#[derive(Clone, Copy)]
 pub struct CommitTime(pub u64);
 
 // What a call on one file answers: the file's length after it, or the number of its refusal.
-#[derive(Drop)]
+#[derive(Clone, Copy)]
 pub enum Answer {
     Accepted(usize),
     Refused(u8),

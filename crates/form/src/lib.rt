@@ -12,14 +12,14 @@ use table::Table;
 use world::{Lens, Slot};
 
 // The place of the transaction, and its touched pages. The pages stand beside the place, not in it, and are in form also where no transaction is in.
-#[derive(Drop)]
+#[derive(Clone, Copy)]
 pub struct Held {
     pub slot: Slot,
     pub touched: Touched,
 }
 
 // The lengths of the files, page count, next id, next commit time, frozen mark, status table, resident pages, and the transaction.
-#[derive(Drop)]
+#[derive(Clone, Copy)]
 pub struct Store {
     pub lens: Lens,
     pub pages: u32,
@@ -32,7 +32,7 @@ pub struct Store {
 }
 
 // What a call answers: its number and the store after it.
-#[derive(Drop)]
+#[derive(Clone, Copy)]
 pub struct Changed {
     pub number: u8,
     pub store: Store,

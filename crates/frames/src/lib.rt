@@ -15,40 +15,40 @@ use fields::{TransactionId, numbers};
 const LIMIT: usize = 64;
 
 // The resident pages: page i of the first count stands in frame i.
-#[derive(Drop)]
+#[derive(Clone, Copy)]
 pub struct Frames {
     pub pages: [u32; 64],
     pub count: usize,
 }
 
 // The pages that a transaction touched, ascending.
-#[derive(Drop)]
+#[derive(Clone, Copy)]
 pub struct Touched {
     pub pages: [u32; 64],
     pub count: usize,
 }
 
-#[derive(Drop)]
+#[derive(Clone, Copy)]
 pub struct Transaction {
     pub id: TransactionId,
     pub touched: Touched,
 }
 
-#[derive(Drop)]
+#[derive(Clone, Copy)]
 pub enum Place {
     At(usize),
     Nowhere,
 }
 
 // number is 0, or 8 with the frames as they were.
-#[derive(Drop)]
+#[derive(Clone, Copy)]
 pub struct Seated {
     pub number: u8,
     pub frames: Frames,
 }
 
 // number is 0, or 11 with the pages as they were.
-#[derive(Drop)]
+#[derive(Clone, Copy)]
 pub struct Marked {
     pub number: u8,
     pub touched: Touched,

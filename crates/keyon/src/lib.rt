@@ -24,14 +24,14 @@ use world::Lens;
 const TABLE_LIMIT: usize = 256;
 
 // The verdict, and the head after it: as it was, unless the opening is accepted.
-#[derive(Drop)]
+#[derive(Clone, Copy)]
 pub struct Waking {
     pub verdict: Verdict,
     pub head: Head,
 }
 
 // The number of an opening; where it is 0, how many rows the log's table has, and the clog's with the log's laid over it.
-#[derive(Drop)]
+#[derive(Clone, Copy)]
 struct Tested {
     number: u8,
     logged: usize,

@@ -14,7 +14,7 @@ const ENTRIES: usize = 256;
 
 // The lengths of the files, page count, next id, next commit time, frozen mark; 1 where a transaction is in and its id, else 0 and 0; how many entries,
 // resident pages and touched pages there are. Every field is a word of the host's store, so any words make a head; which of them no store has is tested with 14.
-#[derive(Drop)]
+#[derive(Clone, Copy)]
 pub struct Head {
     pub lens: Lens,
     pub pages: u64,
@@ -29,7 +29,7 @@ pub struct Head {
 }
 
 // What a call answers: its number and the head after it.
-#[derive(Drop)]
+#[derive(Clone, Copy)]
 pub struct Reply {
     pub number: u8,
     pub head: Head,

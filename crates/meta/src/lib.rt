@@ -11,14 +11,14 @@ use fields::{CommitTime, TransactionId, numbers};
 const VERSION: u32 = 2;
 
 // The counters that page 0 keeps: next id, next commit time, frozen mark.
-#[derive(Drop)]
+#[derive(Clone, Copy)]
 pub struct Counters {
     pub next: TransactionId,
     pub time: CommitTime,
     pub mark: TransactionId,
 }
 
-#[derive(Drop)]
+#[derive(Clone, Copy)]
 pub enum Stored {
     Meta(Counters),
     Nothing,

@@ -43,7 +43,7 @@ seen o = opens o.number (entries_of o.store.table) o.store.time.0
 abbrev result : List ℕ → List ℕ → Result
 result log db =
     seen
-    (opened 4096 (record { log = length log; db = length db; clog = 0 }) (log ++ replicate 8 0x_eE) db (replicate 16 0x_eE) (replicate 4096 0)).outcome
+    (opened 4096 (record { log = length log; db = length db; clog = 0 }) (log ++ replicate 8 0xEE) db (replicate 16 0xEE) (replicate 4096 0)).outcome
 
 abbrev accepted : List ℕ → List ℕ → List Entry → ℕ → Value
 accepted log db entries time = record { gives = result log db; says = opens 0 entries time }

@@ -19,7 +19,7 @@ use Rattle.opening.specs.Opening.{replay, replayed, statuses, log_table, clog_ta
 
 -- a file in a buffer of n bytes more
 abbrev spare : ℕ → List ℕ → File
-spare n bytes = file_of (bytes ++ replicate n 0x_eE) (length bytes)
+spare n bytes = file_of (bytes ++ replicate n 0xEE) (length bytes)
 
 abbrev with_room : List ℕ → List ℕ → List ℕ → Files
 with_room log db clog = record { log = spare 8 log; db = spare 92 db; clog = spare 16 clog }
@@ -108,10 +108,10 @@ numbers = refl
 
 -- 7 counts the ids of log and clog together, each once, beside an empty database too; a clog with another magic counts for nothing
 full :
-    number 64 (with_room (logged (begin 255 ∷ [])) [] (clog_magic ++ replicate 64 0x_aA))
-    ∷ number 64 (with_room (logged (begin 256 ∷ [])) [] (clog_magic ++ replicate 64 0x_aA))
-    ∷ number 64 (with_room [] [] (clog_magic ++ replicate 65 0x_aA))
-    ∷ number 64 (with_room [] [] (0 ∷ clog_magic ++ replicate 65 0x_aA))
+    number 64 (with_room (logged (begin 255 ∷ [])) [] (clog_magic ++ replicate 64 0xAA))
+    ∷ number 64 (with_room (logged (begin 256 ∷ [])) [] (clog_magic ++ replicate 64 0xAA))
+    ∷ number 64 (with_room [] [] (clog_magic ++ replicate 65 0xAA))
+    ∷ number 64 (with_room [] [] (0 ∷ clog_magic ++ replicate 65 0xAA))
     ∷ []
     ≡ 0 ∷ 7 ∷ 7 ∷ 0 ∷ []
 unfolding number encode encode_all bytes_of log_magic clog_magic

@@ -7,14 +7,14 @@ use libc::STDOUT_FILENO;
 use meta::Stored;
 
 // A file's length as far as it matters: one more than the buffer has where the file is longer. Not readable where there is a file and it cannot be read.
-#[derive(Drop)]
+#[derive(Clone, Copy)]
 struct Fetched {
     readable: bool,
     len: usize,
 }
 
 // The mark of page 0; not known where the database does not fit its buffer.
-#[derive(Drop)]
+#[derive(Clone, Copy)]
 struct Marked {
     known: bool,
     mark: u64,

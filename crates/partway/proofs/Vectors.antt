@@ -15,18 +15,18 @@ use Rattle.partway.specs.Partway.{grown, laid_to, cleared_to, points, stopped, a
 
 -- eight ids Aborted, compacted under 6: after one byte, and after both; ids 6 and 7 stay
 abbrev full : File
-full = file_of (clog_magic ++ (0x_fF ∷ 0x_fF ∷ [])) 10
+full = file_of (clog_magic ++ (0xFF ∷ 0xFF ∷ [])) 10
 
-one_byte : content (cleared_to 1 8 6 full) ≡ clog_magic ++ (0x00 ∷ 0x_fF ∷ [])
+one_byte : content (cleared_to 1 8 6 full) ≡ clog_magic ++ (0x00 ∷ 0xFF ∷ [])
 unfolding cleared_to cleared high_bits clog_magic
 one_byte = refl
 
-both_bytes : content (cleared_to 2 8 6 full) ≡ clog_magic ++ (0x00 ∷ 0x_f0 ∷ [])
+both_bytes : content (cleared_to 2 8 6 full) ≡ clog_magic ++ (0x00 ∷ 0xF0 ∷ [])
 unfolding cleared_to cleared high_bits clog_magic
 both_bytes = refl
 
 -- a clog lengthened for id 9, whose byte is not written yet; the buffer had other bytes there
-lengthened : content (grown (file_of (clog_magic ++ replicate 8 0x_eE) 8) 11) ≡ clog_magic ++ (0 ∷ 0 ∷ 0 ∷ [])
+lengthened : content (grown (file_of (clog_magic ++ replicate 8 0xEE) 8) 11) ≡ clog_magic ++ (0 ∷ 0 ∷ 0 ∷ [])
 unfolding lay clog_magic
 lengthened = refl
 
@@ -44,9 +44,9 @@ page-part = refl
 -- a log of 8, a database of a page at pages of 600 bytes, a clog with two bytes after its header; the buffers go on with EE
 abbrev three : Files
 three = record {
-  log = file_of (log_magic ++ replicate 20 0x_eE) 8;
-  db = file_of (replicate 600 1 ++ replicate 600 0x_eE) 600;
-  clog = file_of (clog_magic ++ (0x_fF ∷ 0x_fF ∷ 0x_eE ∷ 0x_eE ∷ [])) 10;
+  log = file_of (log_magic ++ replicate 20 0xEE) 8;
+  db = file_of (replicate 600 1 ++ replicate 600 0xEE) 600;
+  clog = file_of (clog_magic ++ (0xFF ∷ 0xFF ∷ 0xEE ∷ 0xEE ∷ [])) 10;
 }
 
 abbrev nines : List ℕ
@@ -72,16 +72,16 @@ at-4096 = refl
 -- ---- the log cut back: its length alone, then the magic byte by byte, over whatever stood there
 
 abbrev strangely : Files
-strangely = record { log = file_of (replicate 12 0x_eE) 10; db = file_of [] 0; clog = file_of [] 0 }
+strangely = record { log = file_of (replicate 12 0xEE) 10; db = file_of [] 0; clog = file_of [] 0 }
 
 shortened : (apply_to 64 0 Truncate strangely).log ∷ (apply_to 64 1 Truncate strangely).log ∷ (apply_to 64 3 Truncate strangely).log ∷ []
-    ≡ file_of (replicate 12 0x_eE) 10 ∷ file_of (replicate 12 0x_eE) 0 ∷ file_of (0x41 ∷ 0x45 ∷ replicate 10 0x_eE) 2 ∷ []
+    ≡ file_of (replicate 12 0xEE) 10 ∷ file_of (replicate 12 0xEE) 0 ∷ file_of (0x41 ∷ 0x45 ∷ replicate 10 0xEE) 2 ∷ []
 unfolding apply_to points stopped apply header log_magic
 shortened = refl
 
 -- its ninth point is the whole store, and so is any position past it
 restored : (apply_to 64 9 Truncate strangely).log ∷ (apply_to 64 10 Truncate strangely).log ∷ []
-    ≡ file_of (log_magic ++ replicate 4 0x_eE) 8 ∷ file_of (log_magic ++ replicate 4 0x_eE) 8 ∷ []
+    ≡ file_of (log_magic ++ replicate 4 0xEE) 8 ∷ file_of (log_magic ++ replicate 4 0xEE) 8 ∷ []
 unfolding apply_to points stopped apply header log_magic
 restored = refl
 

@@ -11,7 +11,7 @@ use frames::{Frames, Place, Touched};
 // The most touched pages.
 const LIMIT: usize = 64;
 
-#[derive(Drop)]
+#[derive(Clone, Copy)]
 pub enum Which {
     All,
     Data,
@@ -19,7 +19,7 @@ pub enum Which {
 }
 
 // The pages that were picked, and their slots: the first n of each, and zeros after them.
-#[derive(Drop)]
+#[derive(Clone, Copy)]
 pub struct Picked {
     pub pages: [u32; 64],
     pub slots: [usize; 64],

@@ -61,7 +61,7 @@ pub fn install(
 }
 
 // What an uninstall hands out: the transaction that was in, or none.
-#[derive(Drop)]
+#[derive(Clone, Copy)]
 pub struct Uninstalled {
     pub held: Held,
     pub changed: Changed,
@@ -97,7 +97,7 @@ pub fn uninstall(s: Store, log: &[u8], db: &[u8], clog: &[u8], frames: &[u8]) ->
     Uninstalled { held: old, changed }
 }
 
-#[derive(Drop)]
+#[derive(Clone, Copy)]
 pub struct AllocatedId {
     pub id: TransactionId,
     pub changed: Changed,
@@ -125,7 +125,7 @@ pub fn allocate_id(s: Store, log: &[u8], db: &[u8], clog: &[u8], frames: &[u8]) 
     AllocatedId { id, changed }
 }
 
-#[derive(Drop)]
+#[derive(Clone, Copy)]
 pub struct AllocatedPage {
     pub page: u32,
     pub changed: Changed,
@@ -156,7 +156,7 @@ pub fn allocate_page(s: Store, log: &[u8], db: &[u8], clog: &[u8], frames: &[u8]
 
 // ---- the table's entries
 
-#[derive(Drop)]
+#[derive(Clone, Copy)]
 pub struct EntryCount {
     pub number: u8,
     pub entries: usize,
@@ -180,13 +180,13 @@ pub fn entry_count(s: Store, log: &[u8], db: &[u8], clog: &[u8], frames: &[u8]) 
     }
 }
 
-#[derive(Drop)]
+#[derive(Clone, Copy)]
 pub enum EntryAt {
     Is(Entry),
     Nothing,
 }
 
-#[derive(Drop)]
+#[derive(Clone, Copy)]
 pub struct EntryRead {
     pub number: u8,
     pub entry: EntryAt,
@@ -220,7 +220,7 @@ pub fn entry_at(s: Store, i: usize, log: &[u8], db: &[u8], clog: &[u8], frames: 
 // ---- pages
 
 // A page that is to be read or written: whether it was resident, its slot, and the store with it resident.
-#[derive(Drop)]
+#[derive(Clone, Copy)]
 pub struct Seat {
     pub number: u8,
     pub there: bool,
@@ -298,7 +298,7 @@ pub fn fill(frames: &mut [u8], there: bool, slot: usize, db: &[u8], len: usize, 
     frames::fill_frame(frames, slot, db, len, page);
 }
 
-#[derive(Drop)]
+#[derive(Clone, Copy)]
 pub struct PageRead {
     pub bytes: [u8; 4096],
     pub changed: Changed,

@@ -8,7 +8,7 @@ ghost use Rattle.reader.specs.Places.{after_in, reader_at, file_in, moved};
 
 use wal::Read;
 
-#[derive(Drop)]
+#[derive(Clone, Copy)]
 pub struct LogReader<'a> {
     pub log: &'a [u8],
     pub len: usize,

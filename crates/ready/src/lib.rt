@@ -19,7 +19,7 @@ const MOST: usize = 133;
 
 // What a call would do: its number; its stores; the pages whose frames get the file's bytes back; whether page 0's frame gets the plan's counters, and the slot
 // of that frame; the store after it but for the lengths of the files. A refused call has no stores and the old store.
-#[derive(Drop)]
+#[derive(Clone, Copy)]
 pub struct Ready {
     pub number: u8,
     pub plan: Plan,
@@ -30,14 +30,14 @@ pub struct Ready {
 }
 
 // How many stores a call has; a refused one has none.
-#[derive(Drop)]
+#[derive(Clone, Copy)]
 pub struct Counted {
     pub number: u8,
     pub stores: usize,
 }
 
 // A call's number, and what is told of its store k, from 1 on; nothing for 0, past the last store, and where the call is refused.
-#[derive(Drop)]
+#[derive(Clone, Copy)]
 pub struct Told {
     pub number: u8,
     pub telling: Telling,

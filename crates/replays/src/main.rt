@@ -37,7 +37,7 @@ const NO_TRANSACTION: u8 = 16;
 
 const NO_OPCODE: u8 = 17;
 
-#[derive(Drop)]
+#[derive(Clone, Copy)]
 struct Command {
     op: u64,
     a: u64,
@@ -45,7 +45,7 @@ struct Command {
 }
 
 // The files' lengths are the store's, and stay there when it is dropped. The cut is 0, or one more than the store that the next call is cut at.
-#[derive(Drop)]
+#[derive(Clone, Copy)]
 struct State {
     live: bool,
     cut: usize,
@@ -54,7 +54,7 @@ struct State {
 }
 
 // What a command answers, and what it leaves.
-#[derive(Drop)]
+#[derive(Clone, Copy)]
 struct Done {
     number: u8,
     gave: u64,
@@ -711,10 +711,10 @@ fn fetch(script: &mut [u8; 16384]) -> usize {
 }
 
 fn start(script: &[u8; 16384], n: usize) {
-    let mut log = [0x_eEu8; 32768];
-    let mut db = [0x_eEu8; 32768];
-    let mut clog = [0x_eEu8; 256];
-    let mut frames = [0x_eEu8; 32768];
+    let mut log = [0xEEu8; 32768];
+    let mut db = [0xEEu8; 32768];
+    let mut clog = [0xEEu8; 256];
+    let mut frames = [0xEEu8; 32768];
     let all = &script[..];
     let end = fields::smaller(n, all.len());
     run(&all[..end], &mut log, &mut db, &mut clog, &mut frames);

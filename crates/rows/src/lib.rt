@@ -13,7 +13,7 @@ use table::{Entry, Known, Status, Table};
 const LIMIT: usize = 256;
 
 // number is 0, or 7 with the table as it was.
-#[derive(Drop)]
+#[derive(Clone, Copy)]
 pub struct Counted {
     pub number: u8,
     pub count: usize,

@@ -16,7 +16,7 @@ use wal::{Read, WalRecord};
 use world::Lens;
 
 // What is found in a log.
-#[derive(Drop)]
+#[derive(Clone, Copy)]
 pub struct Scanned {
     // An image lies past the database's buffer.
     pub images: bool,
@@ -29,7 +29,7 @@ pub struct Scanned {
 }
 
 // What an opening has tested and read: its number, and where that is 0 the log's table, and the clog's with the log's laid over it.
-#[derive(Drop)]
+#[derive(Clone, Copy)]
 pub struct Surveyed {
     pub number: u8,
     pub logged: Table,

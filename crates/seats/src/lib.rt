@@ -13,7 +13,7 @@ use frames::Place;
 const LIMIT: usize = 64;
 
 // number is 0, or 8 (a seat) or 11 (a mark) with the count as it was given.
-#[derive(Drop)]
+#[derive(Clone, Copy)]
 pub struct Kept {
     pub number: u8,
     pub count: usize,

@@ -9,7 +9,7 @@ use libc::STDOUT_FILENO;
 use meta::Stored;
 
 // A file's length as far as it matters: more than the buffer has where the file is longer. Not readable where there is a file and it cannot be read.
-#[derive(Drop)]
+#[derive(Clone, Copy)]
 struct Fetched {
     readable: bool,
     len: usize,

@@ -58,7 +58,7 @@ misfit : first (0 ∷ 0 ∷ 0 ∷ 11 ∷ 2 ∷ 0 ∷ 0 ∷ 0 ∷ 0 ∷ 0 ∷ 0 �
     ∷ first (10 ∷ 0 ∷ 0 ∷ 0 ∷ 2 ∷ 0 ∷ 0 ∷ 0 ∷ 0 ∷ 0 ∷ 0 ∷ 0 ∷ 8 ∷ 0x38 ∷ []) 1
     ∷ first (0 ∷ 0 ∷ 0 ∷ 9 ∷ 1 ∷ 0 ∷ 0 ∷ 0 ∷ 0 ∷ 0 ∷ 0 ∷ 0 ∷ 8 ∷ []) 1
     ∷ first (0 ∷ 0 ∷ 0 ∷ 9 ∷ 2 ∷ 0 ∷ 0 ∷ 0 ∷ 0 ∷ 0 ∷ 0 ∷ 0 ∷ 6 ∷ []) 1
-    ∷ first (0 ∷ 0 ∷ 0 ∷ 9 ∷ 2 ∷ 0 ∷ 0 ∷ 0 ∷ 0 ∷ 0 ∷ 0x3_f ∷ 0x_fF ∷ 0x_e4 ∷ []) 1
+    ∷ first (0 ∷ 0 ∷ 0 ∷ 9 ∷ 2 ∷ 0 ∷ 0 ∷ 0 ∷ 0 ∷ 0 ∷ 0x3F ∷ 0xFF ∷ 0xE4 ∷ []) 1
     ∷ first (0 ∷ 0 ∷ 0 ∷ 8 ∷ 2 ∷ 0 ∷ 0 ∷ 0 ∷ 0 ∷ 0 ∷ 0 ∷ 8 ∷ []) 1
     ∷ first (0 ∷ 0 ∷ 0 ∷ 9 ∷ 2 ∷ 0 ∷ 0 ∷ 0 ∷ 0 ∷ 0 ∷ 0 ∷ 0 ∷ 8 ∷ []) 9
     ∷ []
@@ -73,20 +73,20 @@ bare = 0 ∷ 0 ∷ 0 ∷ 9 ∷ 2 ∷ 0 ∷ 0 ∷ 0 ∷ 0 ∷ 0 ∷ 0 ∷ 0 ∷ 8
 
 recorded : ℕ → ℕ → Outcome
 unfolding recorded_second form_no record_no relength set_slot with_bits lay misfits base_of be_of le_of big_bytes bytes_of files.unfit unfit decided
-recorded id n = recorded_second (file_of (bare ++ replicate n 0x_eE) 13) id 2
+recorded id n = recorded_second (file_of (bare ++ replicate n 0xEE) 13) id 2
 
 -- 9 Committed: the length that is stated goes from 9 to 10. 7 is below the base, 12 past the buffer; 24 comes before 6
 records : recorded 9 1 ∷ recorded 7 1 ∷ recorded 12 1 ∷ recorded 7 0 ∷ []
     ≡ out 0 (14 ∷ []) (0 ∷ 0 ∷ 0 ∷ 10 ∷ 2 ∷ 0 ∷ 0 ∷ 0 ∷ 0 ∷ 0 ∷ 0 ∷ 0 ∷ 8 ∷ 8 ∷ [])
-    ∷ out 24 [] (bare ++ (0x_eE ∷ [])) ∷ out 6 [] (bare ++ (0x_eE ∷ [])) ∷ out 24 [] bare ∷ []
+    ∷ out 24 [] (bare ++ (0xEE ∷ [])) ∷ out 6 [] (bare ++ (0xEE ∷ [])) ∷ out 24 [] bare ∷ []
 unfolding recorded
 records = refl
 
 abbrev packed : File
-packed = whole (0 ∷ 0 ∷ 0 ∷ 11 ∷ 2 ∷ 0 ∷ 0 ∷ 0 ∷ 0 ∷ 0 ∷ 0 ∷ 0 ∷ 8 ∷ 0x39 ∷ 0x_fF ∷ [])
+packed = whole (0 ∷ 0 ∷ 0 ∷ 11 ∷ 2 ∷ 0 ∷ 0 ∷ 0 ∷ 0 ∷ 0 ∷ 0 ∷ 0 ∷ 8 ∷ 0x39 ∷ 0xFF ∷ [])
 
 -- below 13 the byte of 8 to 11 is cleared and of the next one a slot; base and length stay
 compacts : compacted_second packed 13 ∷ compacted_second packed 3 ∷ []
-    ≡ out 0 (15 ∷ []) (0 ∷ 0 ∷ 0 ∷ 11 ∷ 2 ∷ 0 ∷ 0 ∷ 0 ∷ 0 ∷ 0 ∷ 0 ∷ 0 ∷ 8 ∷ 0 ∷ 0x_fC ∷ []) ∷ out 0 (15 ∷ []) packed.bytes ∷ []
+    ≡ out 0 (15 ∷ []) (0 ∷ 0 ∷ 0 ∷ 11 ∷ 2 ∷ 0 ∷ 0 ∷ 0 ∷ 0 ∷ 0 ∷ 0 ∷ 0 ∷ 8 ∷ 0 ∷ 0xFC ∷ []) ∷ out 0 (15 ∷ []) packed.bytes ∷ []
 unfolding compacted_second form_no clear_slots cleared high_bits misfits base_of be_of le_of files.unfit decided
 compacts = refl

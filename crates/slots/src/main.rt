@@ -138,7 +138,7 @@ fn start(calls: &[u8; 4096], n: usize, clog: &mut [u8; 4096]) {
 
 fn main() {
     let mut calls = [0u8; 4096];
-    let mut clog = [0x_eEu8; 4096];
+    let mut clog = [0xEEu8; 4096];
     let n = fetch(&mut calls);
     start(&calls, n, &mut clog);
 }

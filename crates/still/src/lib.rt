@@ -65,7 +65,7 @@ pub fn install(
 }
 
 // What an uninstall hands out: 1 and the id of the transaction that was in, or 0 and 0; how many pages it had touched.
-#[derive(Drop)]
+#[derive(Clone, Copy)]
 pub struct Gone {
     pub number: u8,
     pub head: Head,
@@ -140,7 +140,7 @@ pub fn uninstall(
     }
 }
 
-#[derive(Drop)]
+#[derive(Clone, Copy)]
 pub struct AllocatedId {
     pub number: u8,
     pub head: Head,
@@ -181,7 +181,7 @@ pub fn allocate_id(
     }
 }
 
-#[derive(Drop)]
+#[derive(Clone, Copy)]
 pub struct AllocatedPage {
     pub number: u8,
     pub head: Head,
@@ -231,7 +231,7 @@ pub fn allocate_page(
 
 // ---- the table's entries
 
-#[derive(Drop)]
+#[derive(Clone, Copy)]
 pub struct EntryCount {
     pub number: u8,
     pub entries: usize,
@@ -266,13 +266,13 @@ pub fn entry_count(
     }
 }
 
-#[derive(Drop)]
+#[derive(Clone, Copy)]
 pub enum EntryAt {
     Is(Entry),
     Nothing,
 }
 
-#[derive(Drop)]
+#[derive(Clone, Copy)]
 pub struct EntryRead {
     pub number: u8,
     pub entry: EntryAt,
@@ -318,7 +318,7 @@ pub fn entry_at(
 // ---- pages
 
 // A page that is to be read or written: whether it was resident, its slot, and the head with it resident.
-#[derive(Drop)]
+#[derive(Clone, Copy)]
 pub struct Seat {
     pub number: u8,
     pub there: bool,

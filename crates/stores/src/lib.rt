@@ -26,7 +26,7 @@ const LIMIT: usize = 64;
 const IMAGE_TAG: u8 = 1;
 
 // One store. A page's bytes are those of a frame: its page number, and the slot of its frame.
-#[derive(Drop)]
+#[derive(Clone, Copy)]
 pub enum Step {
     LogImage(u32, usize),
     LogBegin(TransactionId),
@@ -42,7 +42,7 @@ pub enum Step {
 }
 
 // Which call.
-#[derive(Drop)]
+#[derive(Clone, Copy)]
 pub enum Kind {
     Nothing,
     Begin,
@@ -53,7 +53,7 @@ pub enum Kind {
 }
 
 // A call, planned: the transaction and its commit time, n pages with the slots of their frames, and the counters that page 0 gets.
-#[derive(Drop)]
+#[derive(Clone, Copy)]
 pub struct Plan {
     pub kind: Kind,
     pub id: TransactionId,
@@ -65,14 +65,14 @@ pub struct Plan {
 }
 
 // Where stores carried out stop: their number, 0 where they are accepted, and the lengths of the files.
-#[derive(Drop)]
+#[derive(Clone, Copy)]
 pub struct Cut {
     pub number: u8,
     pub lens: Lens,
 }
 
 // The room that stores need: bytes appended to the log, the furthest end in database and clog.
-#[derive(Drop)]
+#[derive(Clone, Copy)]
 struct Needs {
     log: usize,
     db: usize,
@@ -80,7 +80,7 @@ struct Needs {
 }
 
 // What is told of a store: its kind, offset and length. Kind 1 is a record appended, 2 a page written, 3 a clog change, 4 a truncation.
-#[derive(Drop)]
+#[derive(Clone, Copy)]
 pub enum Telling {
     Store(u8, usize, usize),
     Nothing,

@@ -12,7 +12,7 @@ use table::Status;
 use wal::{Read, WalRecord};
 
 // What is found in a log.
-#[derive(Drop)]
+#[derive(Clone, Copy)]
 pub struct Found {
     // An image lies past the database's buffer.
     pub images: bool,

@@ -8,33 +8,33 @@ use fields::{CommitTime, TransactionId, numbers};
 
 const LIMIT: usize = 256;
 
-#[derive(Drop)]
+#[derive(Clone, Copy)]
 pub enum Status {
     Active,
     Committed(CommitTime),
     Aborted,
 }
 
-#[derive(Drop)]
+#[derive(Clone, Copy)]
 pub struct Entry {
     pub id: TransactionId,
     pub status: Status,
 }
 
-#[derive(Drop)]
+#[derive(Clone, Copy)]
 pub struct Table {
     pub entries: [Entry; 256],
     pub count: usize,
 }
 
-#[derive(Drop)]
+#[derive(Clone, Copy)]
 pub enum Known {
     Is(Status),
     Absent,
 }
 
 // number is 0, or 7 with the table as it was.
-#[derive(Drop)]
+#[derive(Clone, Copy)]
 pub struct Inserted {
     pub number: u8,
     pub table: Table,

@@ -218,10 +218,10 @@ fn far_page(
 }
 
 fn main() {
-    let mut log = [0x_eEu8; 16384];
-    let mut db = [0x_eEu8; 20480];
-    let mut clog = [0x_eEu8; 64];
-    let mut frames = [0x_eEu8; 16384];
+    let mut log = [0xEEu8; 16384];
+    let mut db = [0xEEu8; 20480];
+    let mut clog = [0xEEu8; 64];
+    let mut frames = [0xEEu8; 16384];
     let m = fields::length_of(wal::truncate(&mut log, 0));
     let n = fields::length_of(clog::open(&mut clog, 0));
     let s = fresh(m, n);

@@ -23,7 +23,7 @@ const TX_ABORT_TAG: u8 = 4;
 const CHECKPOINT_TAG: u8 = 5;
 
 // A whole record of the log.
-#[derive(Drop)]
+#[derive(Clone, Copy)]
 pub enum WalRecord {
     // The page's number, and where in the log its bytes start.
     Image(u32, usize),
@@ -34,7 +34,7 @@ pub enum WalRecord {
 }
 
 // What reading at a place finds.
-#[derive(Drop)]
+#[derive(Clone, Copy)]
 pub enum Read {
     // A whole record, and the place after it.
     Found(WalRecord, usize),

@@ -2,14 +2,14 @@
 use fields::TransactionId;
 
 // The place of a store's transaction: installed, or none.
-#[derive(Drop)]
+#[derive(Clone, Copy)]
 pub enum Slot {
     Installed(TransactionId),
     Empty,
 }
 
 // How much of each file's buffer is used.
-#[derive(Drop)]
+#[derive(Clone, Copy)]
 pub struct Lens {
     pub log: usize,
     pub db: usize,

@@ -44,14 +44,14 @@ cases =
     -- id 3 Active, at the mark and below it; a mark past the body
     ∷ refuses (writes 3 (0x40 ∷ []) 4) 19 4
     ∷ puts (writes 4 (0x40 ∷ []) 4) 4 (0x55 ∷ 0 ∷ 0 ∷ 0 ∷ [])
-    ∷ puts (writes 0x_fFFF_FFFF_FFFF_FFFF (0x40 ∷ []) 4) 4 (0x55 ∷ 0 ∷ 0 ∷ 0 ∷ [])
+    ∷ puts (writes 0xFFFF_FFFF_FFFF_FFFF (0x40 ∷ []) 4) 4 (0x55 ∷ 0 ∷ 0 ∷ 0 ∷ [])
     -- no room; 19 before 13; a clog under 8 bytes, before both
     ∷ refuses (writes 0 (0x38 ∷ []) 3) 13 3
     ∷ refuses (writes 3 (0x40 ∷ []) 3) 19 3
     ∷ refuses (written 4 0 (file_of (0x40 ∷ 0x40 ∷ []) 2) []) 1 0
     -- read back; sub-committed; not whole pages, though there is a 3; a 3, though there is no room; no room; no page
     ∷ puts (reads (0x24 ∷ 0 ∷ 0 ∷ 0 ∷ []) 5) 4 (0x38 ∷ 0 ∷ 0 ∷ 0 ∷ 9 ∷ [])
-    ∷ refuses (reads (0 ∷ 0 ∷ 0 ∷ 0x_c0 ∷ []) 4) 20 4
+    ∷ refuses (reads (0 ∷ 0 ∷ 0 ∷ 0xC0 ∷ []) 4) 20 4
     ∷ refuses (reads (3 ∷ 0 ∷ 0 ∷ []) 4) 21 4
     ∷ refuses (reads (3 ∷ 0 ∷ 0 ∷ 0 ∷ []) 1) 20 1
     ∷ refuses (reads (2 ∷ 0 ∷ 0 ∷ 0 ∷ []) 3) 13 3

@@ -1,0 +1,13 @@
+-- `acts::carry_files` meets its contract: the stores, the pages that get their bytes back, page 0. Assumes nothing.
+use Rattle.acts.proofs.Records.{files-out}
+use borrow.Author.Rules.{rules}
+use Rattle.acts.proofs.carry_files.Goals as goal
+
+pub returns : goal.returns
+returns c =
+    let a = c.args in
+    let k = c.carry_on-cut in
+    let g = c.give_back in
+    let f = c.lay_meta in
+    files-out 4096 a.m a.log.now a.db.now a.clog.now a.frames.now k.result k.new.from.1.1.1.0 k.new.from.1.1.1.1.0
+    k.new.from.1.1.1.1.1.0 g.new.db.1.1.0 f.new.frames k.ensures g.ensures f.ensures

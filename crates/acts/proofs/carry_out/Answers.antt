@@ -1,0 +1,16 @@
+-- `acts::carry_out` meets its contract: the stores and the frames, then the arrays. Assumes nothing.
+use mathlib.Core.Path.{refl}
+use Rattle.acts.specs.Made.{lens_head}
+use Rattle.acts.proofs.Records.{whole_out}
+use borrow.Author.Rules.{rules}
+use Rattle.acts.proofs.carry_out.Goals as goal
+
+pub returns : goal.returns
+unfolding lens_head
+returns c =
+    let a = c.args in
+    let k = c.carry_files-end in
+    let x = c.change_arrays-after in
+    whole_out 4096 a.m a.rows.now a.resident.now a.touched.now a.log.now a.db.now a.clog.now a.frames.now _ k.result x.result
+    x.new.size.1.0 x.new.size.1.1.0 x.new.size.1.1.1.0 k.new.log.0 k.new.log.1.0 k.new.log.1.1.0 k.new.log.1.1.1.0
+    refl k.ensures x.ensures

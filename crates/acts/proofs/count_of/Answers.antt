@@ -1,0 +1,8 @@
+-- `acts::count_of` meets its contract. Assumes nothing.
+use Rattle.acts.specs.Made.{counted_made}
+use borrow.Author.Rules.{rules}
+use Rattle.acts.proofs.count_of.Goals as goal
+
+pub returns : goal.returns
+unfolding counted_made
+returns c = rw c.count-stores.ensures

@@ -1,0 +1,11 @@
+-- `acts::cut_at` meets its contract. Assumes nothing.
+use Rattle.acts.proofs.Records.{cut_out}
+use borrow.Author.Rules.{rules}
+use Rattle.acts.proofs.cut_at.Goals as goal
+
+pub returns : goal.returns
+returns c =
+    let a = c.args in
+    let k = c.carry_on-cut in
+    cut_out 4096 a.m a.log.now a.db.now a.clog.now a.frames.now k.result k.new.from.1.1.1.0 k.new.from.1.1.1.1.0
+    k.new.from.1.1.1.1.1.0 a.k k.ensures

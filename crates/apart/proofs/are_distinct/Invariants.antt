@@ -1,0 +1,16 @@
+-- `apart::are_distinct` meets its contract: pages that ascend are distinct, others are compared pair by pair. Assumes nothing.
+use Prim.Native.Nat.{◌-◌}
+use mathlib.Core.Path.{◌≡◌, refl, sym, ◌∙◌}
+use native.Mathlib.Omega.{arith}
+use borrow.Author.Rules.{rules}
+use lib.ListN.{length, take, drop}
+use Rattle.frames.specs.Pages.{distinct}
+use Rattle.frames.proofs.Turns.{distinct-hit, distinct-on, distinct-end}
+use Rattle.apart.proofs.Laws.{rising-distinct}
+use Rattle.apart.proofs.are_distinct.Given as goal
+
+abbrev pub invariant-loop-i : goal.invariant-loop-i
+invariant-loop-i l = distinct (drop l.i (take l.n l.pages)) ≡ distinct (take l.n l.pages)
+
+abbrev pub decreases-loop-i : goal.decreases-loop-i
+decreases-loop-i l = l.n - l.i

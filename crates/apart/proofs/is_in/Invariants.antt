@@ -1,0 +1,17 @@
+-- `apart::is_in` meets its contract. The loop's invariant: what was found, or is found in what is left. Assumes nothing.
+use Prim.Native.Nat.{ℕ, ◌≤◌, ◌-◌, ◌+◌, max}
+use mathlib.Core.Path.{◌≡◌, refl, sym, ap, ◌∙◌}
+use mathlib.Core.Bool.{Bool, true, false, ◌&&◌, ◌||◌}
+use native.Mathlib.Omega.{arith}
+use borrow.Author.Rules.{rules}
+use lib.ListN.{length, take, drop}
+use Rattle.fields.proofs.Tests.{or-false}
+use Rattle.frames.specs.Pages.{is_in}
+use Rattle.frames.proofs.Turns.{in-turn, in_end}
+use Rattle.apart.proofs.is_in.Given as goal
+
+abbrev pub invariant-loop-i : goal.invariant-loop-i
+invariant-loop-i l = (l.found || is_in l.page (drop l.i (take l.n l.pages))) ≡ is_in l.page (drop l.from (take l.n l.pages))
+
+abbrev pub decreases-loop-i : goal.decreases-loop-i
+decreases-loop-i l = l.n - l.i

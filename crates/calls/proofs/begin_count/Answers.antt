@@ -1,0 +1,11 @@
+-- `calls::begin_count` meets its contract: made ready, and counted. Assumes nothing.
+use Rattle.world.specs.Calls.{Begin}
+use Rattle.ready.proofs.Prepared.{counted-done}
+use borrow.Author.Rules.{rules}
+use Rattle.calls.proofs.begin_count.Goals as goal
+
+pub returns : goal.returns
+returns c =
+    let a = c.args in
+    let r = c.ready_begin-r in
+    counted-done 4096 (Begin a.id) a.s a.log.now a.db.now a.clog.now a.frames.now r.result c.count_of.result r.ensures c.count_of.ensures

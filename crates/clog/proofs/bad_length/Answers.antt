@@ -1,0 +1,13 @@
+-- `clog::bad_length` meets its contract: the test of any file decides, and then the least length. Assumes nothing.
+use borrow.Author.Rules.{rules}
+use mathlib.Core.Path.{sym, ◌∙◌}
+use Rattle.clog.specs.Calls.{unfit}
+use Rattle.clog.proofs.bad_length.Goals as goal
+
+pub returns-then-is_unfit : goal.returns-then-is_unfit
+unfolding unfit
+returns-then-is_unfit c = rw (sym c.is_unfit.ensures ∙ c.if-is_unfit.true)
+
+pub returns : goal.returns
+unfolding unfit
+returns c = rw (sym c.is_unfit.ensures ∙ c.if-is_unfit.false)

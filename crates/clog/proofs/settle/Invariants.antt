@@ -1,0 +1,17 @@
+-- `clog::settle` meets its contract. The loop's invariant: settling what is left gives what was asked for. The measure is how many bytes are left. Assumes nothing.
+use mathlib.Core.Path.{◌≡◌, refl, sym, ◌∙◌}
+use mathlib.Core.List.{map}
+use Prim.Native.Nat.{◌-◌}
+use native.Mathlib.Omega.{arith}
+use borrow.Author.Rules.{rules}
+use lib.ListN.{length, length-set}
+use lib.Seq.{sets, slice}
+use Rattle.clog.specs.Slots.{settled_byte}
+use Rattle.clog.proofs.Ways.{settle-turn, settle-end}
+use Rattle.clog.proofs.settle.Given as goal
+
+abbrev pub invariant-loop-i : goal.invariant-loop-i
+invariant-loop-i l = (length l.clog ≡ length l.initial.clog) × (sets l.clog l.i (map settled_byte (slice l.i l.len l.clog)) ≡ sets l.initial.clog l.h (map settled_byte (slice l.h l.len l.initial.clog)))
+
+abbrev pub decreases-loop-i : goal.decreases-loop-i
+decreases-loop-i l = l.len - l.i

@@ -1,0 +1,12 @@
+-- `ends::commit_to` meets its contract: made ready, and cut. Assumes nothing.
+use mathlib.Core.Path.{◌∙◌}
+use Rattle.world.specs.Calls.{Commit}
+use Rattle.lent.specs.Lent.{lent}
+use Rattle.acts.proofs.Laws.{cut-called}
+use borrow.Author.Rules.{rules}
+use Rattle.ends.proofs.commit_to.Goals as goal
+
+pub returns : goal.returns
+returns c =
+    let a = c.args in
+    c.cut_at.ensures ∙ cut-called 4096 Commit (lent a.h a.rows.now a.resident.now a.touched.now) a.log.now a.db.now a.clog.now a.frames.now c.ready_commit-m.result c.ready_commit-m.ensures a.k

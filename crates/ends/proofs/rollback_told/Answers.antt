@@ -1,0 +1,12 @@
+-- `ends::rollback_told` meets its contract: made ready, and told. Assumes nothing.
+use native.Mathlib.Omega.{arith}
+use Rattle.world.specs.Calls.{Rollback}
+use Rattle.lent.specs.Lent.{lent}
+use Rattle.acts.proofs.Laws.{told-called}
+use borrow.Author.Rules.{rules}
+use Rattle.ends.proofs.rollback_told.Goals as goal
+
+pub returns : goal.returns
+returns c =
+    let a = c.args in
+    told-called 4096 (Rollback a.list.now) (lent a.h a.rows.now a.resident.now a.touched.now) a.log.now a.db.now a.clog.now a.frames.now c.ready_rollback-m.result c.ready_rollback-m.ensures (omega arith) a.k c.told_at.result c.told_at.ensures

@@ -1,0 +1,26 @@
+-- `fields::copy` meets its contract: what is left to store, stored, gives what was asked for. Assumes nothing.
+use mathlib.Core.Path.{◌≡◌, refl, sym, ◌∙◌}
+use Prim.Native.Nat.{◌-◌, min}
+use native.Mathlib.Omega.{arith}
+use borrow.Author.Rules.{rules}
+use lib.ListN.{length, drop, length-set}
+use lib.Seq.{sets}
+use Rattle.fields.proofs.Stored.{copy-turn, copy-end}
+use Rattle.fields.proofs.copy.Goals as goal
+
+pub loop-i-init : goal.loop-i-init
+loop-i-init c = (c.inside-k.ensures, refl, refl)
+
+pub loop-i-preserved : goal.loop-i-preserved
+loop-i-preserved c =
+    let l = c.loop-i in
+    let a = c.args in (
+      simp length-set l.invariant.0,
+      simp length-set l.invariant.1,
+      sym (copy-turn l.dst a.src.now l.i (omega arith)) ∙ l.invariant.2,
+    )
+
+pub returns : goal.returns
+returns c =
+    let l = c.loop-i in
+    sym (copy-end l.dst c.args.src.now l.i c.inside-k.result l.invariant.0 (omega arith)) ∙ l.invariant.2

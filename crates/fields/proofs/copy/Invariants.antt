@@ -1,0 +1,15 @@
+-- `fields::copy` meets its contract: what is left to store, stored, gives what was asked for. Assumes nothing.
+use mathlib.Core.Path.{◌≡◌, refl, sym, ◌∙◌}
+use Prim.Native.Nat.{◌-◌, min}
+use native.Mathlib.Omega.{arith}
+use borrow.Author.Rules.{rules}
+use lib.ListN.{length, drop, length-set}
+use lib.Seq.{sets}
+use Rattle.fields.proofs.Stored.{copy-turn, copy-end}
+use Rattle.fields.proofs.copy.Given as goal
+
+abbrev pub invariant-loop-i : goal.invariant-loop-i
+invariant-loop-i l = (l.k ≡ min (length l.src) (length l.dst - 0)) × (length l.dst ≡ length l.initial.dst) × (sets l.dst l.i (drop l.i l.src) ≡ sets l.initial.dst 0 l.src)
+
+abbrev pub decreases-loop-i : goal.decreases-loop-i
+decreases-loop-i l = l.k - l.i

@@ -1,0 +1,32 @@
+-- `frames::any_bad` meets its contract. The loop's invariant: what is left of the pages gives the answer. The measure is how many are left. Assumes nothing.
+use mathlib.Core.Path.{◌≡◌, refl, sym, ◌∙◌}
+use Prim.Native.Nat.{◌-◌}
+use native.Mathlib.Omega.{arith}
+use borrow.Author.Rules.{rules}
+use lib.ListN.{length, take, drop}
+use Rattle.frames.specs.Pages.{any_bad}
+use Rattle.frames.proofs.Turns.{bad-here, bad-on, bad-end}
+use Rattle.frames.proofs.any_bad.Goals as goal
+
+pub loop-i-init : goal.loop-i-init
+loop-i-init c = refl
+
+pub returns-then-pages-i-ge-NO_PAGE : goal.returns-then-pages-i-ge-NO_PAGE
+returns-then-pages-i-ge-NO_PAGE c =
+    let a = c.args in
+    let l = c.loop-i in
+    let len : length a.pages ≡ 64 = search rules in
+    sym (bad-here a.pages a.n l.i c.if-pages-i-ge-NO_PAGE.true (omega arith) (omega arith)) ∙ l.invariant
+
+pub loop-i-preserved : goal.loop-i-preserved
+loop-i-preserved c =
+    let a = c.args in
+    let l = c.loop-i in
+    let len : length a.pages ≡ 64 = search rules in
+    sym (bad-on a.pages a.n l.i c.if-pages-i-ge-NO_PAGE.false (omega arith) (omega arith)) ∙ l.invariant
+
+pub returns : goal.returns
+returns c =
+    let a = c.args in
+    let l = c.loop-i in
+    sym (bad-end a.pages a.n l.i (omega arith)) ∙ l.invariant

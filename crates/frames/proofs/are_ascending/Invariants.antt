@@ -1,0 +1,16 @@
+-- `frames::are_ascending` meets its contract. The loop's invariant: the pages are ascending if they are from page i - 1 on. The measure is how many are left.
+-- Assumes nothing.
+use mathlib.Core.Path.{◌≡◌, refl, sym, ◌∙◌}
+use Prim.Native.Nat.{◌+◌, ◌-◌, ◌≤◌, max}
+use native.Mathlib.Omega.{arith}
+use borrow.Author.Rules.{rules}
+use lib.ListN.{length, take, drop}
+use Rattle.sorted.proofs.Laws.{ascending-on, ascending-stop, ascending-end}
+use Rattle.frames.specs.Pages.{ascending, number}
+use Rattle.frames.proofs.are_ascending.Given as goal
+
+abbrev pub invariant-loop-i : goal.invariant-loop-i
+invariant-loop-i l = (1 ≤ l.i) × (l.i ≤ max l.n 1) × (ascending (take l.n l.pages) ≡ ascending (drop (l.i - 1) (take l.n l.pages)))
+
+abbrev pub decreases-loop-i : goal.decreases-loop-i
+decreases-loop-i l = l.n - l.i

@@ -1,0 +1,18 @@
+-- `frames::count_below` meets its contract. The loop's invariant: the place is what was passed and the place in what is left. The measure is how many are left.
+-- Assumes nothing.
+use mathlib.Core.Path.{◌≡◌, sym}
+use Prim.Native.Nat.{◌+◌, ◌-◌, ◌≤◌}
+use native.Mathlib.Nat.{zero-add}
+use native.Mathlib.Omega.{arith}
+use borrow.Author.Rules.{rules}
+use lib.ListN.{length, take, drop}
+use Rattle.sorted.proofs.Laws.{place-stop, place-on, place_end}
+use Rattle.frames.specs.Pages.{number}
+use Rattle.frames.specs.Inside.{below_in}
+use Rattle.frames.proofs.count_below.Given as goal
+
+abbrev pub invariant-loop-i : goal.invariant-loop-i
+invariant-loop-i l = (l.i ≤ l.n) × (below_in l.page (take l.n l.pages) ≡ l.i + below_in l.page (drop l.i (take l.n l.pages)))
+
+abbrev pub decreases-loop-i : goal.decreases-loop-i
+decreases-loop-i l = l.n - l.i

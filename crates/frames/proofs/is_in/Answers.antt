@@ -1,0 +1,24 @@
+-- `frames::is_in` meets its contract. The loop's invariant: what was found, or is found in what is left of the pages. The measure is how many are left. Assumes nothing.
+use mathlib.Core.Path.{◌≡◌, refl, sym, ◌∙◌}
+use mathlib.Core.Bool.{◌||◌}
+use Prim.Native.Nat.{◌-◌}
+use native.Mathlib.Omega.{arith}
+use borrow.Author.Rules.{rules}
+use lib.ListN.{length, take, drop}
+use Rattle.fields.proofs.Tests.{or-false}
+use Rattle.frames.specs.Pages.{is_in}
+use Rattle.frames.proofs.Turns.{in-turn, in_end}
+use Rattle.frames.proofs.is_in.Goals as goal
+
+pub loop-i-init : goal.loop-i-init
+loop-i-init c = refl
+
+pub loop-i-preserved : goal.loop-i-preserved
+loop-i-preserved c =
+    let a = c.args in
+    in-turn a.pages.now a.n c.loop-i.i a.page c.loop-i.found c.found_or-found.result c.found_or-found.ensures (omega arith) (omega arith) ∙ c.loop-i.invariant
+
+pub returns : goal.returns
+returns c =
+    let a = c.args in
+    sym (or-false c.loop-i.found) ∙ rw (in_end a.pages.now a.n c.loop-i.i a.page (omega arith)) at c.loop-i.invariant

@@ -1,0 +1,39 @@
+-- `frames::mark` meets its contract: each of its three ways out is a law of proofs/Values.antt. Assumes nothing.
+use mathlib.Core.Path.{◌≡◌}
+use mathlib.Core.Logic.{⊎_elim}
+use Prim.Native.Nat.{◌<◌}
+use native.Mathlib.Omega.{arith}
+use lib.ListN.{length, get_or}
+use Rattle.sorted.proofs.Laws.{place-held}
+use Rattle.frames.specs.Pages.{number}
+use Rattle.frames.proofs.Values.{mark-hit, mark-over, mark-new}
+use borrow.Author.Rules.{rules}
+use Rattle.frames.proofs.mark.Goals as goal
+
+pub returns-then-pages-p : goal.returns-then-pages-p
+returns-then-pages-p c =
+    let a = c.args in
+    let h = c.held-n in
+    let len : length a.t.pages ≡ 64 = search rules in
+    mark-hit 64 a.t a.page h.result c.count_below-p.result len h.ensures c.count_below-p.ensures c.if-p-n.true c.if-pages-p.true
+
+pub returns-then-n-ge-LIMIT : goal.returns-then-n-ge-LIMIT
+returns-then-n-ge-LIMIT c =
+    let a = c.args in
+    let h = c.held-n in
+    let len : length a.t.pages ≡ 64 = search rules in
+    mark-over 64 a.t a.page h.result c.count_below-p.result len h.ensures c.count_below-p.ensures ((⊎_elim (λ w. w.1.left ) (λ w. let g = w.left in omega arith) c.if-p-n.branch)) (omega arith)
+
+pub shifted-b-requires : goal.shifted-b-requires
+shifted-b-requires c =
+    let a = c.args in
+    let n = c.held-n.result in
+    (omega (arith, c.count_below-p.ensures, place-held number 0 a.page a.t.pages n), omega arith)
+
+pub returns : goal.returns
+returns c =
+    let a = c.args in
+    let h = c.held-n in
+    let len : length a.t.pages ≡ 64 = search rules in
+    mark-new 64 a.t a.page h.result c.count_below-p.result len h.ensures c.count_below-p.ensures ((⊎_elim (λ w. w.1.left ) (λ w. let g = w.left in omega arith) c.if-p-n.branch)) c.shifted-b.result
+    (omega arith) c.shifted-b.ensures

@@ -1,0 +1,8 @@
+-- `gathers::commit_plan` meets its contract. Assumes nothing.
+use borrow.Author.Rules.{rules}
+use Rattle.plans.specs.Planned.{plan_of}
+use Rattle.gathers.proofs.commit_plan.Goals as goal
+
+pub returns : goal.returns
+unfolding plan_of
+returns c = rw (c.next_time-after.ensures, c.pick_in-p.ensures)

@@ -1,0 +1,14 @@
+-- `hostcuts::nyotmelang_pager_advance_told` meets its contract: the head is read, the call made, and what comes of it handed to the host. Assumes nothing.
+use Rattle.world.specs.Calls.{Advance}
+use Rattle.lent.specs.Lent.{lent}
+use Rattle.acts.specs.Partly.{told_lent}
+use Rattle.hostcuts.proofs.Laws.{told-given}
+use borrow.Author.Rules.{rules}
+use Rattle.hostcuts.proofs.nyotmelang_pager_advance_told.Goals as goal
+
+pub returns : goal.returns
+returns c =
+    let a = c.args in
+    told-given
+    (λ h. told_lent 4096 a.k (Advance (record { 0 = a.mark })) (lent h a.rows.now a.resident.now a.touched.now) a.log.now a.db.now a.clog.now a.frames.now)
+    c.head_in-h.result _ c.advance_told-r.result _ _ c.head_in-h.ensures c.advance_told-r.ensures c.give_told.ensures

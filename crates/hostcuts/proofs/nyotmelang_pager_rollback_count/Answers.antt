@@ -1,0 +1,14 @@
+-- `hostcuts::nyotmelang_pager_rollback_count` meets its contract: the head is read, the call made, and what comes of it handed to the host. Assumes nothing.
+use Rattle.world.specs.Calls.{Rollback}
+use Rattle.lent.specs.Lent.{lent}
+use Rattle.acts.specs.Partly.{counted_lent}
+use Rattle.hostcuts.proofs.Laws.{count-given}
+use borrow.Author.Rules.{rules}
+use Rattle.hostcuts.proofs.nyotmelang_pager_rollback_count.Goals as goal
+
+pub returns : goal.returns
+returns c =
+    let a = c.args in
+    count-given
+    (λ h. counted_lent 4096 (Rollback a.list.now) (lent h a.rows.now a.resident.now a.touched.now) a.log.now a.db.now a.clog.now a.frames.now)
+    c.head_in-h.result _ c.rollback_count-r.result _ _ c.head_in-h.ensures c.rollback_count-r.ensures c.give_count.ensures

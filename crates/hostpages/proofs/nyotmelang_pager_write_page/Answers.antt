@@ -1,0 +1,18 @@
+-- `hostpages::nyotmelang_pager_write_page` meets its contract: the head is read, the call made, and what comes of it handed to the host. Assumes nothing.
+use Rattle.world.specs.Calls.{Write}
+use Rattle.lent.specs.Lent.{lent, called_lent}
+use Rattle.words.proofs.Laws.{stood}
+use borrow.Author.Rules.{rules}
+use Rattle.hostpages.proofs.nyotmelang_pager_write_page.Reads as reads
+use Rattle.hostpages.proofs.nyotmelang_pager_write_page.Lts as lts
+use Rattle.still.proofs.write_page.Reads as write-page-reads
+use Rattle.words.proofs.head_in.Reads as head-in-reads
+use Rattle.words.proofs.put_head.Reads as put-head-reads
+use Rattle.hostpages.proofs.nyotmelang_pager_write_page.Goals as goal
+
+pub returns : goal.returns
+returns c =
+    let a = c.args in
+    stood
+    (λ h. called_lent 4096 (Write a.page a.bytes.now) (lent h a.rows.now a.resident.now a.touched.now) a.log.now a.db.now a.clog.now a.frames.now)
+    c.head_in-h.result c.write_page-r.result.head _ _ _ _ _ _ _ _ _ _ c.head_in-h.ensures c.put_head.ensures c.write_page-r.ensures

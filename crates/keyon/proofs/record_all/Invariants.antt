@@ -1,0 +1,25 @@
+-- `keyon::record_all` meets its contract. The loop's invariant: recording the entries that are left gives what recording all gives, and the length stays within the buffer. The measure is how many are left. Assumes nothing.
+use borrow.Author.Rules.{rules}
+use mathlib.Core.Path.{◌≡◌, refl, sym, ap, ◌∙◌}
+use mathlib.Core.List.{map}
+use Prim.Native.Nat.{◌-◌, ◌≤◌, min}
+use native.Mathlib.Omega.{arith}
+use lib.ListN.{length, take, length-map}
+use Rattle.fields.specs.Files.{file_of}
+use Rattle.fields.proofs.FileLaws.{fit-means}
+use Rattle.sorted.proofs.Laws.{take_min}
+use Rattle.table.specs.declared.Entry.{Entry}
+use Rattle.table.specs.Entries.{id_of}
+use Rattle.rows.specs.Rows.{entry_of}
+use Rattle.clog.specs.Slots.{code_of, record_all}
+use Rattle.clog.specs.Calls.{recorded}
+use Rattle.opens.proofs.Clogs.{put}
+use Rattle.keyon.proofs.Tables.{entry-there}
+use Rattle.keyon.proofs.record_all.Given as goal
+
+abbrev pub invariant-loop-i : goal.invariant-loop-i
+invariant-loop-i l = (l.i ≤ min l.count 256) × (length l.clog ≡ length l.initial.clog) × (8 ≤ l.n) × (l.n ≤ length l.initial.clog)
+    × (record_all 8 0 (take l.i (map entry_of l.rows)) (file_of l.clog l.n) ≡ record_all 8 0 (take l.count (map entry_of l.rows)) (file_of l.initial.clog l.len))
+
+abbrev pub decreases-loop-i : goal.decreases-loop-i
+decreases-loop-i l = l.i

@@ -1,0 +1,9 @@
+-- `leaves::nyotmelang_clog_reset` meets its contract: the call is made, and its answer told. Assumes nothing.
+use Rattle.leaves.proofs.Laws.{answer-left}
+use borrow.Author.Rules.{rules}
+use Rattle.leaves.proofs.nyotmelang_clog_reset.Goals as goal
+
+pub returns : goal.returns
+returns c =
+    let k = c.reset-a in
+    answer-left _ k.result _ _ _ k.ensures c.tell.ensures

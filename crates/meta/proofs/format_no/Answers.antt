@@ -1,0 +1,39 @@
+-- `meta::format_no` meets its contract: each way out is a law of proofs/Laws.antt. Assumes nothing.
+use mathlib.Core.Path.{sym, ◌∙◌}
+use Prim.Native.Nat.{◌≤◌}
+use native.Mathlib.Omega.{arith}
+use borrow.Author.Rules.{rules}
+use borrow.Author.Tests.{not-true, not-false}
+use lib.ListN.{length, length-take}
+use Rattle.fields.proofs.FileLaws.{fit-means}
+use Rattle.meta.proofs.Laws.{version-zero, version-two, version-other, format-unfit, format-none, format-good, format-bad}
+use Rattle.meta.proofs.format_no.Goals as goal
+
+pub returns-then-is_unfit : goal.returns-then-is_unfit
+returns-then-is_unfit c = sym (format-unfit 4096 _ (sym c.is_unfit.ensures ∙ c.if-is_unfit.true))
+
+pub slice_bounds-s-end : goal.slice_bounds-s-end
+slice_bounds-s-end c =
+    let a = c.args in
+    let h : a.len ≤ length a.db.now = (fit-means _ _ _ (sym c.is_unfit.ensures ∙ c.if-is_unfit.false)).1 in
+    simp length-take (omega arith)
+
+pub returns-then-not-has_meta : goal.returns-then-not-has_meta
+returns-then-not-has_meta c =
+    sym (format-none 4096 _ (sym c.is_unfit.ensures ∙ c.if-is_unfit.false) (sym c.has_meta.ensures ∙ not-true c.has_meta.result c.if-not-has_meta.true-raw))
+
+pub returns-then-version-eq0 : goal.returns-then-version-eq0
+returns-then-version-eq0 c =
+    sym (format-good 4096 _ (sym c.is_unfit.ensures ∙ c.if-is_unfit.false) (sym c.has_meta.ensures ∙ not-false c.has_meta.result c.if-not-has_meta.false-raw)
+    (version-zero _ (omega (arith, c.get_u32-version.ensures))))
+
+pub returns-then-version-eq-VERSION : goal.returns-then-version-eq-VERSION
+returns-then-version-eq-VERSION c =
+    sym (format-good 4096 _ (sym c.is_unfit.ensures ∙ c.if-is_unfit.false) (sym c.has_meta.ensures ∙ not-false c.has_meta.result c.if-not-has_meta.false-raw)
+    (version-two _ (omega (arith, c.get_u32-version.ensures))))
+
+pub returns : goal.returns
+returns c =
+    let e = c.get_u32-version.ensures in
+    sym (format-bad 4096 _ (sym c.is_unfit.ensures ∙ c.if-is_unfit.false) (sym c.has_meta.ensures ∙ not-false c.has_meta.result c.if-not-has_meta.false-raw)
+    (version-other _ (λ z. c.if-version-eq0.false (e ∙ z)) (λ z. c.if-version-eq-VERSION.false (e ∙ z))))

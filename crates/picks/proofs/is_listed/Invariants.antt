@@ -1,0 +1,16 @@
+-- `picks::is_listed` meets its contract. Assumes nothing.
+use mathlib.Core.Path.{◌≡◌, sym, ap, ◌∙◌}
+use Prim.Native.Nat.{◌-◌, ◌≤◌}
+use native.Mathlib.Omega.{arith}
+use borrow.Author.Rules.{rules}
+use lib.ListN.{length, take, drop}
+use lib.Seq.{take-length}
+use Rattle.frames.specs.Pages.{is_in}
+use Rattle.frames.proofs.Turns.{in-here, in_on, in_end}
+use Rattle.picks.proofs.is_listed.Given as goal
+
+abbrev pub invariant-loop-i : goal.invariant-loop-i
+invariant-loop-i l = (l.i ≤ length l.list) × (is_in l.page l.list ≡ is_in l.page (drop l.i (take (length l.list) l.list)))
+
+abbrev pub decreases-loop-i : goal.decreases-loop-i
+decreases-loop-i l = length l.list - l.i

@@ -1,0 +1,9 @@
+-- `picks::none` meets its contract. Assumes nothing.
+use mathlib.Core.Path.{refl}
+use borrow.Author.Rules.{rules}
+use Rattle.picks.specs.Picks.{picked_of}
+use Rattle.picks.proofs.none.Goals as goal
+
+pub returns : goal.returns
+unfolding picked_of
+returns c = refl

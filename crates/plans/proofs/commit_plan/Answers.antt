@@ -1,0 +1,9 @@
+-- `plans::commit_plan` meets its contract. Assumes nothing.
+use mathlib.Core.Path.{◌∙◌}
+use borrow.Author.Rules.{rules}
+use Rattle.plans.specs.Planned.{plan_of}
+use Rattle.plans.proofs.commit_plan.Goals as goal
+
+pub returns : goal.returns
+unfolding plan_of
+returns c = rw (c.next_time-after.ensures, c.pick-p.ensures)

@@ -1,0 +1,9 @@
+-- `plans::rollback_plan` meets its contract. Assumes nothing.
+use mathlib.Core.Path.{◌∙◌}
+use borrow.Author.Rules.{rules}
+use Rattle.plans.specs.Planned.{plan_of}
+use Rattle.plans.proofs.rollback_plan.Goals as goal
+
+pub returns : goal.returns
+unfolding plan_of
+returns c = rw (c.no_time-time.ensures, c.pick-p.ensures)

@@ -1,0 +1,18 @@
+-- `ready::carry_out` meets its contract: the stores, the pages that get their bytes back, page 0. Assumes nothing.
+use Rattle.fields.specs.Files.{file_of}
+use Rattle.ready.specs.Ready.{with_lens}
+use Rattle.ready.proofs.Prepared.{framed-out, carried-done}
+use borrow.Author.Rules.{rules}
+use Rattle.ready.proofs.carry_out.Goals as goal
+
+pub returns : goal.returns
+unfolding with_lens
+returns c =
+    let a = c.args in
+    let k = c.carry_on-cut in
+    let g = c.give_back in
+    let f = c.lay_meta in
+    let db = k.new.from.1.1.1.1.0 in
+    let fine = framed-out 4096 (file_of db k.result.lens.db) a.r a.frames.now g.new.db.1.1.0 f.new.frames g.ensures f.ensures in
+    carried-done 4096 a.r a.frames.now a.log.now a.db.now a.clog.now k.result k.new.from.1.1.1.0 db k.new.from.1.1.1.1.1.0
+    f.new.frames k.ensures fine

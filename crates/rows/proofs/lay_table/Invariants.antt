@@ -1,0 +1,18 @@
+-- `rows::lay_table` meets its contract. The loop's invariant: the first i rows are the table's, the others are as they were. The measure is how many are left. Assumes nothing.
+use borrow.Author.Rules.{rules}
+use Prim.Native.Nat.{ℕ, ◌≤◌, ◌-◌, min}
+use mathlib.Core.Path.{◌≡◌, refl, sym, ap, ◌∙◌}
+use mathlib.Core.List.{List, ◌++◌, map}
+use native.Mathlib.Omega.{arith}
+use Rattle.sorted.proofs.Laws.{length-of-mapped}
+use lib.ListN.{length, take, drop}
+use Rattle.table.specs.Entries.{blank}
+use Rattle.rows.specs.Rows.{row_of}
+use Rattle.rows.proofs.Several.{table_on, table_done}
+use Rattle.rows.proofs.lay_table.Given as goal
+
+abbrev pub invariant-loop-i : goal.invariant-loop-i
+invariant-loop-i l = (l.i ≤ l.n) × (l.rows ≡ map row_of (take l.i l.t.entries) ++ drop l.i l.initial.rows)
+
+abbrev pub decreases-loop-i : goal.decreases-loop-i
+decreases-loop-i l = l.n - l.i

@@ -1,0 +1,16 @@
+-- `rows::overlay` meets its contract. The loop's invariant: setting what is left gives what setting all gives. The measure is how many are left. Assumes nothing.
+use borrow.Author.Rules.{rules}
+use Prim.Native.Nat.{◌≤◌, ◌-◌}
+use mathlib.Core.Path.{◌≡◌, refl, sym, ap, ◌∙◌}
+use mathlib.Core.List.{map}
+use native.Mathlib.Omega.{arith}
+use lib.ListN.{length, take, drop, get_or}
+use Rattle.rows.specs.Rows.{entry_of, rowed, held_row, set_all}
+use Rattle.rows.proofs.Several.{all-on, all_end}
+use Rattle.rows.proofs.overlay.Given as goal
+
+abbrev pub invariant-loop-i : goal.invariant-loop-i
+invariant-loop-i l = (l.i ≤ l.n) × (set_all 256 (rowed l.c l.rows) (map entry_of (drop l.i (take l.count l.top))) ≡ set_all 256 (rowed l.initial.c l.initial.rows) (map entry_of (take l.count l.top)))
+
+abbrev pub decreases-loop-i : goal.decreases-loop-i
+decreases-loop-i l = l.n - l.i

@@ -1,0 +1,36 @@
+-- `rows::with_status` meets its contract: each of its three ways out is a law of proofs/Laws.antt. Assumes nothing.
+use mathlib.Core.Path.{◌≡◌, sym, ap, ◌∙◌}
+use mathlib.Core.Logic.{⊎_elim}
+use Prim.Native.Nat.{◌<◌}
+use native.Mathlib.Omega.{arith}
+use borrow.Author.Rules.{rules}
+use lib.ListN.{length, get_or}
+use Rattle.sorted.proofs.Laws.{place-held}
+use Rattle.rows.specs.Rows.{row_id}
+use Rattle.rows.proofs.Laws.{no_row, with-hit, with-full, with-new}
+use Rattle.rows.proofs.with_status.Goals as goal
+
+pub returns-then-rows-p : goal.returns-then-rows-p
+returns-then-rows-p c =
+    let a = c.args in
+    let len : length a.rows.now ≡ 256 = search rules in
+    rw c.row_of-x.ensures
+    (with-hit 256 a.rows.now a.count (record { id = a.id; status = a.status }) c.held-n.result c.place-p.result len c.held-n.ensures c.place-p.ensures (omega arith) c.if-rows-p.true)
+
+pub returns-then-n-ge-LIMIT : goal.returns-then-n-ge-LIMIT
+returns-then-n-ge-LIMIT c =
+    let a = c.args in
+    let len : length a.rows.now ≡ 256 = search rules in
+    with-full 256 a.rows.now a.count (record { id = a.id; status = a.status }) c.held-n.result c.place-p.result len c.held-n.ensures c.place-p.ensures ((⊎_elim (λ w. w.3.left ) (λ w. let g = w.left in omega arith) c.if-p-n.branch)) (omega arith)
+
+pub shift-requires : goal.shift-requires
+shift-requires c =
+    let a = c.args in
+    (omega (arith, c.place-p.ensures, place-held row_id no_row a.id.0 a.rows.now c.held-n.result), omega arith)
+
+pub returns : goal.returns
+returns c =
+    let a = c.args in
+    let len : length a.rows.now ≡ 256 = search rules in
+    with-new 256 a.rows.now a.count (record { id = a.id; status = a.status }) c.held-n.result c.place-p.result len c.held-n.ensures c.place-p.ensures ((⊎_elim (λ w. w.3.left ) (λ w. let g = w.left in omega arith) c.if-p-n.branch)) _
+    (omega arith) (rw (← c.row_of-x.ensures) c.shift.ensures)

@@ -1,0 +1,17 @@
+-- `seats::find` meets its contract. The loop's invariant: what was passed does not hold the page, so that it stands in what is left or nowhere.
+-- The measure is how many are left. Assumes nothing.
+use Rattle.frames.specs.Pages.{is_in, slot_of}
+use Rattle.frames.proofs.Turns.{in-here, in_on, in_end, slot-here, slot-on, found_at, found_none}
+use mathlib.Core.Path.{◌≡◌, refl, sym, ◌∙◌}
+use Prim.Native.Nat.{◌+◌, ◌-◌, ◌≤◌}
+use native.Mathlib.Nat.{zero-add}
+use native.Mathlib.Omega.{arith}
+use borrow.Author.Rules.{rules}
+use lib.ListN.{length, take, drop}
+use Rattle.seats.proofs.find.Given as goal
+
+abbrev pub invariant-loop-i : goal.invariant-loop-i
+invariant-loop-i l = (l.i ≤ l.m) × (is_in l.page (take l.n l.resident) ≡ is_in l.page (drop l.i (take l.n l.resident))) × (slot_of l.page (take l.n l.resident) ≡ l.i + slot_of l.page (drop l.i (take l.n l.resident)))
+
+abbrev pub decreases-loop-i : goal.decreases-loop-i
+decreases-loop-i l = l.m - l.i

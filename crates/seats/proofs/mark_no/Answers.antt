@@ -1,0 +1,34 @@
+-- `seats::mark_no` meets its contract: each of its three ways out is a law of proofs/Laws.antt. Assumes nothing.
+use borrow.Author.Rules.{rules}
+use Rattle.seats.proofs.Laws.{mark-there, mark-none, mark-next}
+use Rattle.seats.specs.Seats.{mark_kept}
+use mathlib.Core.Path.{◌≡◌, refl, ap}
+use mathlib.Core.Logic.{⊎_elim}
+use Prim.Native.Nat.{◌<◌}
+use native.Mathlib.Omega.{arith}
+use lib.ListN.{length, get_or}
+use Rattle.seats.proofs.mark_no.Goals as goal
+
+pub returns-then-touched-p : goal.returns-then-touched-p
+returns-then-touched-p c =
+    let w = c.place-p in
+    let h = c.held-m in
+    let a = c.args in
+    let len : length a.touched.now ≡ 64 = search rules in
+    ap mark_kept (mark-there a.touched.now a.n h.result a.page w.result len h.ensures w.ensures c.if-p-m.true c.if-touched-p.true)
+
+pub returns-then-m-ge-LIMIT : goal.returns-then-m-ge-LIMIT
+returns-then-m-ge-LIMIT c =
+    let w = c.place-p in
+    let h = c.held-m in
+    let a = c.args in
+    let len : length a.touched.now ≡ 64 = search rules in
+    ap mark_kept (mark-none a.touched.now a.n h.result a.page w.result len h.ensures w.ensures ((⊎_elim (λ w. w.2.left ) (λ w. let g = w.left in omega arith) c.if-p-m.branch)) c.if-m-ge-LIMIT.true)
+
+pub returns : goal.returns
+returns c =
+    let w = c.place-p in
+    let h = c.held-m in
+    let a = c.args in
+    let len : length a.touched.now ≡ 64 = search rules in
+    ap mark_kept (mark-next a.touched.now a.n h.result a.page w.result len h.ensures w.ensures ((⊎_elim (λ w. w.2.left ) (λ w. let g = w.left in omega arith) c.if-p-m.branch)) _ c.if-m-ge-LIMIT.false refl)

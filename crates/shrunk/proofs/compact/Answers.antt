@@ -1,0 +1,28 @@
+-- `shrunk::compact` meets its contract: where the file fits, clog's compaction is the call. Assumes nothing.
+use mathlib.Core.Path.{◌≡◌, sym, ap, ◌∙◌}
+use borrow.Author.Rules.{rules}
+use lib.Seq.{length-take-le}
+use Rattle.shrunk.proofs.Ways.{form-means, compacted-no, compacted-done}
+use Rattle.shrunk.proofs.compact.Goals as goal
+
+pub returns-then-no-ne-ACCEPTED : goal.returns-then-no-ne-ACCEPTED
+returns-then-no-ne-ACCEPTED c =
+    let a = c.args in
+    compacted-no a.second.now a.len _ c.form_no-no.ensures c.if-no-ne-ACCEPTED.true a.below.0
+
+pub slice_bounds-base_in-end : goal.slice_bounds-base_in-end
+slice_bounds-base_in-end c =
+    (form-means _ _ c.form_no-no.ensures c.if-no-ne-ACCEPTED.false).1
+
+pub slice_bounds-base_in-end-2 : goal.slice_bounds-base_in-end-2
+slice_bounds-base_in-end-2 c =
+    sym (length-take-le _ _ (form-means _ _ c.form_no-no.ensures c.if-no-ne-ACCEPTED.false).1)
+
+pub base_in-base-requires : goal.base_in-base-requires
+base_in-base-requires c =
+    (form-means _ _ c.form_no-no.ensures c.if-no-ne-ACCEPTED.false).2
+
+pub returns : goal.returns
+returns c =
+    let a = c.args in
+    compacted-done a.second.now a.len _ c.form_no-no.ensures c.if-no-ne-ACCEPTED.false c.compact_in.result a.below.0 c.base_in-base.result c.compact_in.new.clog c.base_in-base.ensures.0 c.compact_in.ensures

@@ -1,0 +1,24 @@
+-- `still::allocate_id` meets its contract: refused by the first test, or the next id is handed out. Assumes nothing.
+-- the arrays have the sizes of their types
+use borrow.Author.Rules.{rules}
+use mathlib.Core.Path.{◌≡◌}
+use mathlib.Core.Bool.{false}
+use Rattle.world.specs.Refusals.{front_no}
+use Rattle.form.specs.Store.{world_of}
+use Rattle.lent.specs.Lent.{lent, odd, store_of}
+use Rattle.lent.proofs.Laws.{Fit, front-passed}
+use Rattle.still.proofs.Transactions.{id-first, id_left}
+use Rattle.still.proofs.allocate_id.Goals as goal
+
+pub returns-then-no-ne-ACCEPTED : goal.returns-then-no-ne-ACCEPTED
+returns-then-no-ne-ACCEPTED c =
+    let a = c.args in
+    let k = c.front_no-no in
+    id-first 4096 (lent a.h a.rows.now a.resident.now a.touched.now) a.log.now a.db.now a.clog.now a.frames.now k.result k.ensures c.if-no-ne-ACCEPTED.true
+
+pub returns : goal.returns
+returns c =
+    let a = c.args in
+    let p = (let a = c.args in let k = c.front_no-no in front-passed 4096 (lent a.h a.rows.now a.resident.now a.touched.now) a.log.now a.db.now a.clog.now a.frames.now k.result k.ensures c.if-no-ne-ACCEPTED.false) in
+    let n = c.next_id-next in
+    id_left 4096 (lent a.h a.rows.now a.resident.now a.touched.now) a.log.now a.db.now a.clog.now a.frames.now ((record { rows = search rules; resident = search rules; touched = search rules })) p.0 p.1 n.result n.ensures

@@ -1,0 +1,50 @@
+-- `stores::carry` meets its contract. The invariant: the stores that are left have room, and carrying them out gives the result. Assumes nothing.
+use mathlib.Core.Path.{◌≡◌, refl, sym, ◌∙◌}
+use Prim.Native.Nat.{ℕ, ◌+◌, ◌-◌, ◌≤◌, ◌<◌}
+use native.Mathlib.Omega.{arith}
+use borrow.Author.Rules.{rules}
+use lib.ListN.{length, take, drop}
+use Rattle.world.specs.World.{Files, files_of}
+use Rattle.world.specs.Steps.{apply_all}
+use Rattle.stores.specs.Plans.{steps_of, meant}
+use Rattle.stores.specs.Inside.{Enough}
+use Rattle.stores.proofs.RoomLaws.{carry-end, carry-room, carry-next, carry-turn}
+use Rattle.stores.proofs.carry.Goals as goal
+
+pub loop-i-init : goal.loop-i-init
+loop-i-init c = (refl, refl, refl, c.requires, refl)
+
+pub apply_step-at-requires : goal.apply_step-at-requires
+apply_step-at-requires c =
+    let a = ((⟦c.before.before.before.before.before.before.before⟧)).args in
+    let l = c.loop-i in
+    let t = c.step_at-s in
+    carry-room 4096 a.frames.now a.plan l.i a.k ((files_of c.loop-i.at c.loop-i.log c.loop-i.db c.loop-i.clog)) t.result (((omega (arith, c.smaller-stop.ensures, c.count-all.ensures, c.loop-i-test.true), omega (arith, c.smaller-stop.ensures, c.loop-i-test.true)))).0 t.ensures l.invariant.3
+
+pub loop-i-preserved : goal.loop-i-preserved
+loop-i-preserved c =
+    let k = c.apply_step-at in
+    let t = c.step_at-s in
+    let a = ((⟦c.before.before.before.before.before.before.before⟧)).args in
+    let l = c.loop-i in (
+      k.auto.lens.1.0 ∙ l.invariant.0,
+      k.auto.lens.1.1.0 ∙ l.invariant.1,
+      k.auto.lens.1.1.1.0 ∙ l.invariant.2,
+      carry-next 4096 a.frames.now a.plan l.i a.k ((files_of c.loop-i.at c.loop-i.log c.loop-i.db c.loop-i.clog)) t.result (((omega (arith, c.smaller-stop.ensures, c.count-all.ensures, c.loop-i-test.true), omega (arith, c.smaller-stop.ensures, c.loop-i-test.true)))).0 t.ensures (files_of k.result k.new.lens.1.0 k.new.lens.1.1.0 k.new.lens.1.1.1.0) l.invariant.3 k.ensures,
+      carry-turn 4096 a.frames.now a.plan l.i a.k ((files_of c.loop-i.at c.loop-i.log c.loop-i.db c.loop-i.clog)) t.result (((omega (arith, c.smaller-stop.ensures, c.count-all.ensures, c.loop-i-test.true), omega (arith, c.smaller-stop.ensures, c.loop-i-test.true)))).0 t.ensures (files_of k.result k.new.lens.1.0 k.new.lens.1.1.0 k.new.lens.1.1.1.0) (((omega (arith, c.smaller-stop.ensures, c.count-all.ensures, c.loop-i-test.true), omega (arith, c.smaller-stop.ensures, c.loop-i-test.true)))).1 k.ensures ∙ l.invariant.4,
+    )
+
+pub shape_of-log : goal.shape_of-log
+shape_of-log c = c.loop-i.invariant.0
+
+pub shape_of-db : goal.shape_of-db
+shape_of-db c = c.loop-i.invariant.1
+
+pub shape_of-clog : goal.shape_of-clog
+shape_of-clog c = c.loop-i.invariant.2
+
+pub returns : goal.returns
+returns c =
+    let l = c.loop-i in
+    let a = ((⟦c.before.before.before.before.before.before.before⟧)).args in
+    sym (carry-end 4096 a.frames.now a.plan l.i a.k ((files_of c.loop-i.at c.loop-i.log c.loop-i.db c.loop-i.clog)) (omega (arith, c.smaller-stop.ensures, c.count-all.ensures, c.loop-i-test.false))) ∙ l.invariant.4

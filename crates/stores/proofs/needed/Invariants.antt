@@ -1,0 +1,26 @@
+-- `stores::needed` meets its contract. The invariant: what is counted and what the rest needs make up the whole; the sum stays small. Assumes nothing.
+use Rattle.stores.proofs.RoomLaws.{cost-most, log-turn, db-turn, clog-turn, needs-none}
+use Rattle.stores.proofs.PlanLaws.{most-steps}
+use Rattle.stores.specs.Inside.{cost_of, needs_of}
+use Rattle.stores.specs.Plans.{steps_of, meant}
+use Rattle.stores.specs.declared.Needs.{Needs}
+use Rattle.world.specs.Steps.{log_bytes, db_end, clog_end, sum_of, most_of}
+use mir.Val.{Fits}
+use mir.Syntax.{w64}
+use lib.ListN.{length, drop}
+use lib.Dec.{lit≤}
+use borrow.Author.Rules.{rules}
+use native.Mathlib.Omega.{arith}
+use Prim.Native.Nat.{ℕ, ◌+◌, ◌-◌, ◌*◌, ◌≤◌, ◌<◌, max}
+use mathlib.Core.List.{[]}
+use mathlib.Core.Path.{◌≡◌, refl, sym, ap, ◌∙◌}
+use Rattle.stores.proofs.needed.Given as goal
+
+abbrev pub invariant-loop-i : goal.invariant-loop-i
+invariant-loop-i l = (l.log ≤ l.i * 4113)
+    × (l.log + sum_of log_bytes (drop l.i (meant 4096 [] l.plan)) ≡ sum_of log_bytes (drop l.from (meant 4096 [] l.plan)))
+    × (max l.db (most_of (db_end 4096) (drop l.i (meant 4096 [] l.plan))) ≡ most_of (db_end 4096) (drop l.from (meant 4096 [] l.plan)))
+    × (max l.clog (most_of clog_end (drop l.i (meant 4096 [] l.plan))) ≡ most_of clog_end (drop l.from (meant 4096 [] l.plan)))
+
+abbrev pub decreases-loop-i : goal.decreases-loop-i
+decreases-loop-i l = l.all - l.i

@@ -1,0 +1,50 @@
+-- `survey::survey` meets its contract. The loop's invariant: what is found so far, with what the records from the place on add to it, is what the whole log has. The measure is how many bytes are left. Assumes nothing.
+use borrow.Author.Rules.{rules}
+use mathlib.Core.Path.{◌≡◌, sym, ap, ◌∙◌}
+use Prim.Native.Nat.{◌-◌, ◌≤◌}
+use native.Mathlib.Omega.{arith}
+use lib.ListN.{take, drop}
+use Rattle.fields.specs.Files.{file_of}
+use Rattle.wal.specs.Records.{parse}
+use Rattle.scan.proofs.Turns.{start-within, ahead}
+use Rattle.survey.specs.Survey.{Survey, survey_of, found, surveyed}
+use Rattle.survey.specs.Inside.{with_read}
+use Rattle.survey.proofs.Turns.{onto, onto-start, moved, survey-done}
+use Rattle.survey.proofs.survey.Goals as goal
+
+pub returns-then-is_unfit : goal.returns-then-is_unfit
+unfolding surveyed
+returns-then-is_unfit c =
+    let u = sym c.is_unfit.ensures ∙ c.if-is_unfit.true in
+    rw (u, c.unread.ensures)
+
+pub loop-at-init : goal.loop-at-init
+loop-at-init c =
+    let s = c.start_of-at in
+    let a = c.args in
+    let u = sym c.is_unfit.ensures ∙ c.if-is_unfit.false in
+    rw (s.ensures, c.unread-s.ensures) (start-within 4096 a.log.now a.len u, onto-start 4096 a.db a.clog (file_of a.log.now a.len) a.rows.now)
+
+pub loop-at-smaller : goal.loop-at-smaller
+loop-at-smaller c =
+    let a = c.args in
+    let u = sym c.is_unfit.ensures ∙ c.if-is_unfit.false in
+    let r = c.read_record-r in
+    let m = ahead 4096 a.log.now a.len u c.loop-at.at r.result (omega arith) r.ensures in
+    rw c.next_place-at.ensures (omega (arith, m.further, m.within))
+
+pub loop-at-preserved : goal.loop-at-preserved
+loop-at-preserved c =
+    let a = c.args in
+    let u = sym c.is_unfit.ensures ∙ c.if-is_unfit.false in
+    let r = c.read_record-r in
+    let m = ahead 4096 a.log.now a.len u c.loop-at.at r.result (omega arith) r.ensures in
+    let k = moved 4096 a.log.now a.len u c.loop-at.at r.result (omega arith) r.ensures a.db a.clog (survey_of c.loop-at.s c.loop-at.rows) in
+    rw c.next_place-at.ensures (m.within, rw c.on_read-s.ensures (k ∙ c.loop-at.invariant.1))
+
+pub returns : goal.returns
+returns c =
+    let l = c.loop-at in
+    let a = c.args in
+    let u = sym c.is_unfit.ensures ∙ c.if-is_unfit.false in
+    survey-done 4096 a.log.now a.len u a.db a.clog l.at a.rows.now (survey_of l.s l.rows) (omega arith) l.invariant.1

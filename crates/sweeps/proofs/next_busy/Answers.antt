@@ -1,0 +1,30 @@
+-- `sweeps::next_busy` meets its contract. The loop's invariant: where the bytes that are not 0 begin is the same from i on. The measure is how many bytes are left. Assumes nothing.
+use borrow.Author.Rules.{rules}
+use mathlib.Core.Path.{◌≡◌, refl, sym, ◌∙◌}
+use Prim.Native.Nat.{◌+◌, ◌-◌, ◌≤◌}
+use native.Mathlib.Omega.{arith}
+use lib.ListN.{length}
+use Rattle.sweeps.specs.Inside.{busy_from}
+use Rattle.sweeps.proofs.Zeros.{busy-stop, busy-on, busy-end}
+use Rattle.sweeps.proofs.next_busy.Goals as goal
+
+pub loop-i-init : goal.loop-i-init
+loop-i-init c = (c.past_free-i.ensures.1, c.past_free-i.ensures.2)
+
+pub returns-then-s-i-ne0 : goal.returns-then-s-i-ne0
+returns-then-s-i-ne0 c =
+    let l = c.loop-i in
+    let a = c.args in
+    busy-stop a.s.now l.i (omega arith) c.if-s-i-ne0.true ∙ l.invariant.1
+
+pub loop-i-preserved : goal.loop-i-preserved
+loop-i-preserved c =
+    let l = c.loop-i in
+    let a = c.args in
+    (omega arith, busy-on a.s.now l.i (omega arith) (omega arith) ∙ l.invariant.1)
+
+pub returns : goal.returns
+returns c =
+    let l = c.loop-i in
+    let a = c.args in
+    busy-end a.s.now l.i (omega arith) ∙ l.invariant.1

@@ -1,0 +1,15 @@
+-- `sweeps::past_free` meets its contract. The loop's invariant: where the bytes that are not 0 begin is the same from i on. The measure is how many bytes are left. Assumes nothing.
+use borrow.Author.Rules.{rules}
+use mathlib.Core.Path.{◌≡◌, refl, sym, ◌∙◌}
+use Prim.Native.Nat.{◌+◌, ◌-◌, ◌≤◌}
+use native.Mathlib.Omega.{arith}
+use lib.ListN.{length}
+use Rattle.sweeps.specs.Inside.{free, busy_from}
+use Rattle.sweeps.proofs.Zeros.{free-fits, busy-free}
+use Rattle.sweeps.proofs.past_free.Given as goal
+
+abbrev pub invariant-loop-go : goal.invariant-loop-go
+invariant-loop-go l = (l.at ≤ l.i) × (l.i ≤ length l.s) × (l.go ≡ free l.s l.i) × (busy_from l.s l.i ≡ busy_from l.s l.at)
+
+abbrev pub decreases-loop-go : goal.decreases-loop-go
+decreases-loop-go l = length l.s - l.i

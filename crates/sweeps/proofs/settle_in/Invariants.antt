@@ -1,0 +1,20 @@
+-- `sweeps::settle_in` meets its contract. The loop's invariant: settling what is left gives what was asked for. The measure is how many bytes are left. Assumes nothing.
+use borrow.Author.Rules.{rules}
+use mathlib.Core.Path.{◌≡◌, refl, sym, ap, ◌∙◌}
+use mathlib.Core.List.{map}
+use Prim.Native.Nat.{◌+◌, ◌-◌, ◌≤◌}
+use native.Mathlib.Omega.{arith}
+use lib.ListN.{length, take, set, length-set}
+use lib.Seq.{sets, slice, length-take-le}
+use Rattle.clog.specs.Slots.{settled_byte}
+use Rattle.clog.proofs.Ways.{settle-turn, settle-end}
+use Rattle.sweeps.specs.Inside.{busy_from}
+use Rattle.sweeps.proofs.Zeros.{busy-within}
+use Rattle.sweeps.proofs.Laws.{settle-skip}
+use Rattle.sweeps.proofs.settle_in.Given as goal
+
+abbrev pub invariant-loop-i : goal.invariant-loop-i
+invariant-loop-i l = (length l.clog ≡ length l.initial.clog) × (l.i ≤ l.len) × (sets l.clog l.i (map settled_byte (slice l.i l.len l.clog)) ≡ sets l.initial.clog 8 (map settled_byte (slice 8 l.len l.initial.clog)))
+
+abbrev pub decreases-loop-i : goal.decreases-loop-i
+decreases-loop-i l = l.len - l.i

@@ -1,0 +1,6 @@
+-- `table::largest_time` meets its contract: the number is what `largest` ensures. Assumes nothing.
+use borrow.Author.Rules.{rules}
+use Rattle.table.proofs.largest_time.Goals as goal
+
+pub returns : goal.returns
+returns c = rw c.largest.ensures

@@ -1,0 +1,18 @@
+-- `table::overlay` meets its contract. The loop's invariant is `Carried` of proofs/Laws.antt: setting what is left in the table carried gives what setting all
+-- in the first one gives. The measure is how many are left. Assumes nothing.
+use Prim.Native.Nat.{◌≤◌, ◌-◌, ◌+◌}
+use mathlib.Core.Path.{◌≡◌}
+use native.Mathlib.Omega.{arith}
+use borrow.Author.Rules.{rules}
+use mathlib.Core.List.{◌∷◌}
+use lib.ListN.{length, drop, get_or}
+use Rattle.sorted.proofs.Laws.{front, done, length-of-mapped}
+use Rattle.table.specs.Entries.{list_of, blank}
+use Rattle.table.proofs.Laws.{Carried, carried_none, carried-more, carried-stop, carried-all}
+use Rattle.table.proofs.overlay.Given as goal
+
+abbrev pub invariant-loop-i : goal.invariant-loop-i
+invariant-loop-i l = (l.i ≤ l.m) × Carried 256 l.t (list_of l.top) (drop l.i (list_of l.top)) l.u
+
+abbrev pub decreases-loop-i : goal.decreases-loop-i
+decreases-loop-i l = l.m - l.i

@@ -1,0 +1,30 @@
+-- `table::shifted` meets its contract. The loop's invariant: the entries from i to `to` have moved up by one. The measure is i. Assumes nothing.
+use Rattle.table.specs.Entries.{blank}
+use Prim.Native.Nat.{◌≤◌, ◌-◌}
+use mathlib.Core.Path.{◌≡◌}
+use native.Mathlib.Omega.{arith}
+use borrow.Author.Rules.{rules}
+use lib.ListN.{length}
+use Rattle.sorted.proofs.Laws.{moved, moved_none, moved_more, moved-put}
+use Rattle.table.proofs.shifted.Goals as goal
+
+pub loop-i-init : goal.loop-i-init
+loop-i-init c =
+    let a = c.args in
+    let len : length a.entries ≡ 256 = search rules in
+    (omega arith, omega arith, moved_none a.entries a.to (omega arith))
+
+pub loop-i-preserved : goal.loop-i-preserved
+loop-i-preserved c =
+    let l = c.loop-i in
+    let a = c.args in
+    let len : length a.entries ≡ 256 = search rules in
+    (omega arith, omega arith, rw l.invariant.2 (moved_more a.entries l.i a.to blank (omega arith) (omega arith) (omega arith)))
+
+pub returns : goal.returns
+returns c =
+    let l = c.loop-i in
+    let a = c.args in
+    let len : length a.entries ≡ 256 = search rules in
+    let e : a.from ≡ l.i = omega arith in
+    rw (l.invariant.2, e) (moved-put a.entries l.i a.to a.e (omega arith) (omega arith))

@@ -1,0 +1,17 @@
+-- `xacts::read_body` meets its contract. The loop's invariant: writing what is left gives what was asked for.
+-- The measure is how many bytes are left. Assumes nothing.
+use mathlib.Core.Path.{◌≡◌, refl, sym, ◌∙◌}
+use Prim.Native.Nat.{◌-◌, ◌*◌, ◌≤◌}
+use native.Mathlib.Omega.{arith}
+use borrow.Author.Rules.{rules}
+use lib.ListN.{length, drop, length-set}
+use lib.Seq.{sets}
+use Rattle.xacts.specs.Pages.{read_as, remade, body_from}
+use Rattle.xacts.proofs.Remade.{remade-turn, remade-end}
+use Rattle.xacts.proofs.read_body.Given as goal
+
+abbrev pub invariant-loop-i : goal.invariant-loop-i
+invariant-loop-i l = (l.i ≤ length l.pages) × (length l.out ≡ length l.initial.out) × (sets l.out l.i (remade (λ t c. read_as c) (4 * l.i) (drop l.i l.pages)) ≡ sets l.initial.out 0 (remade (λ t c. read_as c) 0 l.pages))
+
+abbrev pub decreases-loop-i : goal.decreases-loop-i
+decreases-loop-i l = length l.pages - l.i

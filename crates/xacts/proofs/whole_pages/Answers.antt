@@ -1,0 +1,9 @@
+-- `xacts::whole_pages` meets its contract. Assumes nothing.
+use native.Mathlib.Omega.{arith}
+use Rattle.xacts.specs.Pages.{whole_pages}
+use borrow.Author.Rules.{rules}
+use Rattle.xacts.proofs.whole_pages.Goals as goal
+
+pub returns : goal.returns
+unfolding whole_pages
+returns c = omega arith

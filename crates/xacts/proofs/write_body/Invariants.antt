@@ -1,0 +1,16 @@
+-- `xacts::write_body` meets its contract. The loop's invariant: writing what is left gives what was asked for.
+-- The measure is how many bytes are left. Assumes nothing.
+use mathlib.Core.Path.{◌≡◌, refl, sym, ◌∙◌}
+use Prim.Native.Nat.{◌-◌, ◌*◌, ◌≤◌}
+use native.Mathlib.Omega.{arith}
+use lib.ListN.{length, drop, length-set}
+use lib.Seq.{sets}
+use Rattle.xacts.specs.Pages.{written_as, remade}
+use Rattle.xacts.proofs.Remade.{remade-turn, remade-end}
+use Rattle.xacts.proofs.write_body.Given as goal
+
+abbrev pub invariant-loop-i : goal.invariant-loop-i
+invariant-loop-i l = (l.i ≤ length l.body) × (length l.out ≡ length l.initial.out) × (sets l.out l.i (remade (written_as l.mark) (4 * l.i) (drop l.i l.body)) ≡ sets l.initial.out 0 (remade (written_as l.mark) 0 l.body))
+
+abbrev pub decreases-loop-i : goal.decreases-loop-i
+decreases-loop-i l = length l.body - l.i
