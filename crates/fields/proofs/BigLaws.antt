@@ -1,13 +1,13 @@
 -- Big-endian numbers and their bytes, over the width n: the round trip both ways, from the little-endian one, and what a turn of the loops that read and write
 -- does. Assumes nothing.
-use mathlib.Core.Path.{◌≡◌, refl, sym, ap, ◌∙◌}
+use mathlib.Core.Path.{◌≡◌, refl, ap, ◌∙◌}
 use mathlib.Core.List.{List, [], ◌∷◌, ◌++◌, reverse, reverse_aux, reverse-cons, reverse-append, reverse-reverse}
 use Prim.Native.Nat.{ℕ, zero, suc, ◌+◌, ◌-◌, ◌*◌, ◌/◌, ◌%◌, ◌^◌, ◌≤◌, ◌<◌, min}
 use native.Mathlib.Nat.{pow-suc, pow-le-pow_right}
 use native.Mathlib.Numerals.{add-one}
 use native.Mathlib.Omega.{arith}
 use lib.Dec.{lit<}
-use lib.ListN.{length, take, drop, get_or, set, length-take, length-drop, length-reverse}
+use lib.ListN.{length, take, drop, get_or, set, length-drop, length-reverse}
 use lib.Seq.{sets, set_comm, take-suc, get_or-drop}
 use Rattle.fields.specs.Bytes.{le_of, bytes_of, be_of, big_bytes, Bytes}
 use Rattle.fields.proofs.ByteLaws.{length-bytes_of, bytes_of-bytes, le_of-bytes_of, bytes_of-le_of, le_of-lt}

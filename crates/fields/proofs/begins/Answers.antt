@@ -1,9 +1,6 @@
 -- `fields::begins` meets its contract: what is left of both lists gives the answer. Assumes nothing.
-use mathlib.Core.Path.{◌≡◌, refl, sym, ◌∙◌}
-use Prim.Native.Nat.{◌-◌, ◌≤◌}
+use mathlib.Core.Path.{refl, sym, ◌∙◌}
 use native.Mathlib.Omega.{arith}
-use lib.ListN.{length, drop}
-use Rattle.fields.specs.Bytes.{starts}
 use Rattle.fields.proofs.Stored.{starts-short, starts_other, starts-on, starts-done}
 use Rattle.fields.proofs.begins.Goals as goal
 

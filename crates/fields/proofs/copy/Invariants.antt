@@ -1,11 +1,8 @@
 -- `fields::copy` meets its contract: what is left to store, stored, gives what was asked for. Assumes nothing.
-use mathlib.Core.Path.{◌≡◌, refl, sym, ◌∙◌}
+use mathlib.Core.Path.{◌≡◌}
 use Prim.Native.Nat.{◌-◌, min}
-use native.Mathlib.Omega.{arith}
-use borrow.Author.Rules.{rules}
-use lib.ListN.{length, drop, length-set}
+use lib.ListN.{length, drop}
 use lib.Seq.{sets}
-use Rattle.fields.proofs.Stored.{copy-turn, copy-end}
 use Rattle.fields.proofs.copy.Given as goal
 
 abbrev pub invariant-loop-i : goal.invariant-loop-i

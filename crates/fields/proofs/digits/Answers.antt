@@ -1,10 +1,7 @@
 -- `fields::digits` meets its contract: the bytes from i on are read; the measure is i. Assumes nothing.
-use mathlib.Core.Path.{◌≡◌, refl, sym}
-use Prim.Native.Nat.{◌+◌, ◌-◌, ◌^◌, ◌≤◌, ◌<◌, min}
+use mathlib.Core.Path.{◌≡◌, sym}
+use Prim.Native.Nat.{◌+◌, ◌-◌}
 use native.Mathlib.Omega.{arith}
-use borrow.Author.Rules.{rules}
-use lib.ListN.{length, take, drop}
-use Rattle.fields.specs.Bytes.{le_of}
 use Rattle.fields.proofs.ByteLaws.{pow-above, get_none, get-more, get-bound, get-word}
 use Rattle.fields.proofs.digits.Goals as goal
 

@@ -1,11 +1,8 @@
 -- `fields::digits` meets its contract: the bytes from i on are read; the measure is i. Assumes nothing.
-use mathlib.Core.Path.{◌≡◌, refl, sym}
-use Prim.Native.Nat.{◌+◌, ◌-◌, ◌^◌, ◌≤◌, ◌<◌, min}
-use native.Mathlib.Omega.{arith}
-use borrow.Author.Rules.{rules}
+use mathlib.Core.Path.{◌≡◌}
+use Prim.Native.Nat.{◌-◌, ◌^◌, ◌≤◌, ◌<◌, min}
 use lib.ListN.{length, take, drop}
 use Rattle.fields.specs.Bytes.{le_of}
-use Rattle.fields.proofs.ByteLaws.{pow-above, get_none, get-more, get-bound, get-word}
 use Rattle.fields.proofs.digits.Given as goal
 
 abbrev pub invariant-loop-i : goal.invariant-loop-i

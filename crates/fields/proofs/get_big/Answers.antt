@@ -1,10 +1,9 @@
 -- `fields::get_big` meets its contract: the first i bytes are read; the measure is what is left. Assumes nothing.
-use mathlib.Core.Path.{◌≡◌, refl, sym, ap, ◌∙◌}
-use Prim.Native.Nat.{◌+◌, ◌-◌, ◌^◌, ◌≤◌, ◌<◌, min}
+use mathlib.Core.Path.{◌≡◌, sym, ap, ◌∙◌}
+use Prim.Native.Nat.{◌+◌, ◌-◌}
 use native.Mathlib.Omega.{arith}
-use borrow.Author.Rules.{rules}
 use lib.Dec.{lit<}
-use lib.ListN.{length, take, drop, length-drop}
+use lib.ListN.{length, drop, length-drop}
 use Rattle.fields.specs.Bytes.{be_of}
 use Rattle.fields.proofs.Lists.{first-min}
 use Rattle.fields.proofs.BigLaws.{big-none, big-more, big-bound, big-word, big-wide}

@@ -1,13 +1,8 @@
 -- `fields::get_big` meets its contract: the first i bytes are read; the measure is what is left. Assumes nothing.
-use mathlib.Core.Path.{◌≡◌, refl, sym, ap, ◌∙◌}
-use Prim.Native.Nat.{◌+◌, ◌-◌, ◌^◌, ◌≤◌, ◌<◌, min}
-use native.Mathlib.Omega.{arith}
-use borrow.Author.Rules.{rules}
-use lib.Dec.{lit<}
-use lib.ListN.{length, take, drop, length-drop}
+use mathlib.Core.Path.{◌≡◌}
+use Prim.Native.Nat.{◌-◌, ◌^◌, ◌≤◌, ◌<◌, min}
+use lib.ListN.{length, take, drop}
 use Rattle.fields.specs.Bytes.{be_of}
-use Rattle.fields.proofs.Lists.{first-min}
-use Rattle.fields.proofs.BigLaws.{big-none, big-more, big-bound, big-word, big-wide}
 use Rattle.fields.proofs.get_big.Given as goal
 
 abbrev pub invariant-loop-i : goal.invariant-loop-i

@@ -1,7 +1,6 @@
 -- `fields::lay` meets its contract: past the end nothing is stored, and what the copy stored in the lent part is stored in the whole. Assumes nothing.
 use mathlib.Core.Path.{sym}
 use native.Mathlib.Omega.{arith}
-use borrow.Author.Rules.{rules}
 use Rattle.fields.proofs.Stored.{sets-out, lent-tail}
 use Rattle.fields.proofs.lay.Goals as goal
 

@@ -1,11 +1,8 @@
 -- `fields::put_big` meets its contract: what is left to store, stored, gives what was asked for. Assumes nothing.
-use mathlib.Core.Path.{◌≡◌, refl, sym, ◌∙◌}
-use native.Mathlib.Omega.{arith}
-use borrow.Author.Rules.{rules}
+use mathlib.Core.Path.{◌≡◌}
 use lib.ListN.{length}
 use lib.Seq.{sets}
 use Rattle.fields.specs.Bytes.{big_bytes}
-use Rattle.fields.proofs.BigLaws.{big-turn, big-end}
 use Rattle.fields.proofs.put_big.Given as goal
 
 abbrev pub invariant-loop-i : goal.invariant-loop-i

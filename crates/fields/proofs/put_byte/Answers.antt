@@ -1,7 +1,6 @@
 -- `fields::put_byte` meets its contract: past the end a store changes nothing. Assumes nothing.
 use mathlib.Core.Path.{sym}
 use native.Mathlib.Omega.{arith}
-use borrow.Author.Rules.{rules}
 use lib.Seq.{set_out}
 use Rattle.fields.proofs.put_byte.Goals as goal
 

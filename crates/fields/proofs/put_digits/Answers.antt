@@ -1,11 +1,8 @@
 -- `fields::put_digits` meets its contract: what is left to store, stored, gives what was asked for. Assumes nothing.
 use mathlib.Core.Path.{◌≡◌, refl, sym, ◌∙◌}
-use Prim.Native.Nat.{◌+◌, ◌-◌, min}
+use Prim.Native.Nat.{◌+◌, ◌-◌}
 use native.Mathlib.Omega.{arith}
-use borrow.Author.Rules.{rules}
-use lib.ListN.{length, length-set}
-use lib.Seq.{sets}
-use Rattle.fields.specs.Bytes.{bytes_of}
+use lib.ListN.{length-set}
 use Rattle.fields.proofs.Stored.{put-turn, put-end}
 use Rattle.fields.proofs.put_digits.Goals as goal
 

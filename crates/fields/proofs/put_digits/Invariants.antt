@@ -1,12 +1,9 @@
 -- `fields::put_digits` meets its contract: what is left to store, stored, gives what was asked for. Assumes nothing.
-use mathlib.Core.Path.{◌≡◌, refl, sym, ◌∙◌}
+use mathlib.Core.Path.{◌≡◌}
 use Prim.Native.Nat.{◌+◌, ◌-◌, min}
-use native.Mathlib.Omega.{arith}
-use borrow.Author.Rules.{rules}
-use lib.ListN.{length, length-set}
+use lib.ListN.{length}
 use lib.Seq.{sets}
 use Rattle.fields.specs.Bytes.{bytes_of}
-use Rattle.fields.proofs.Stored.{put-turn, put-end}
 use Rattle.fields.proofs.put_digits.Given as goal
 
 abbrev pub invariant-loop-i : goal.invariant-loop-i

@@ -1,10 +1,7 @@
 -- `fields::zero_fill` meets its contract: what is left to store, stored, gives what was asked for. Assumes nothing.
-use mathlib.Core.Path.{◌≡◌, refl, sym, ◌∙◌}
-use Prim.Native.Nat.{◌-◌, min}
+use mathlib.Core.Path.{refl, sym, ◌∙◌}
 use native.Mathlib.Omega.{arith}
-use borrow.Author.Rules.{rules}
-use lib.ListN.{length, length-set, replicate}
-use lib.Seq.{sets}
+use lib.ListN.{length-set}
 use Rattle.fields.proofs.Stored.{zeros-turn, zeros-end}
 use Rattle.fields.proofs.zero_fill.Goals as goal
 

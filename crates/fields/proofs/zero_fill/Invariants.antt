@@ -1,11 +1,8 @@
 -- `fields::zero_fill` meets its contract: what is left to store, stored, gives what was asked for. Assumes nothing.
-use mathlib.Core.Path.{◌≡◌, refl, sym, ◌∙◌}
+use mathlib.Core.Path.{◌≡◌}
 use Prim.Native.Nat.{◌-◌, min}
-use native.Mathlib.Omega.{arith}
-use borrow.Author.Rules.{rules}
-use lib.ListN.{length, length-set, replicate}
+use lib.ListN.{length, replicate}
 use lib.Seq.{sets}
-use Rattle.fields.proofs.Stored.{zeros-turn, zeros-end}
 use Rattle.fields.proofs.zero_fill.Given as goal
 
 abbrev pub invariant-loop-i : goal.invariant-loop-i

@@ -1,12 +1,12 @@
 -- `frames::are_ascending` meets its contract. The loop's invariant: the pages are ascending if they are from page i - 1 on. The measure is how many are left.
 -- Assumes nothing.
 use mathlib.Core.Path.{◌≡◌, refl, sym, ◌∙◌}
-use Prim.Native.Nat.{◌+◌, ◌-◌, ◌≤◌, max}
+use Prim.Native.Nat.{◌+◌, ◌-◌}
 use native.Mathlib.Omega.{arith}
 use borrow.Author.Rules.{rules}
-use lib.ListN.{length, take, drop}
+use lib.ListN.{length}
 use Rattle.sorted.proofs.Laws.{ascending-on, ascending-stop, ascending-end}
-use Rattle.frames.specs.Pages.{ascending, number}
+use Rattle.frames.specs.Pages.{number}
 use Rattle.frames.proofs.are_ascending.Goals as goal
 
 pub loop-i-init : goal.loop-i-init

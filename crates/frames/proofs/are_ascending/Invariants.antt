@@ -1,12 +1,9 @@
 -- `frames::are_ascending` meets its contract. The loop's invariant: the pages are ascending if they are from page i - 1 on. The measure is how many are left.
 -- Assumes nothing.
-use mathlib.Core.Path.{◌≡◌, refl, sym, ◌∙◌}
-use Prim.Native.Nat.{◌+◌, ◌-◌, ◌≤◌, max}
-use native.Mathlib.Omega.{arith}
-use borrow.Author.Rules.{rules}
-use lib.ListN.{length, take, drop}
-use Rattle.sorted.proofs.Laws.{ascending-on, ascending-stop, ascending-end}
-use Rattle.frames.specs.Pages.{ascending, number}
+use mathlib.Core.Path.{◌≡◌}
+use Prim.Native.Nat.{◌-◌, ◌≤◌, max}
+use lib.ListN.{take, drop}
+use Rattle.frames.specs.Pages.{ascending}
 use Rattle.frames.proofs.are_ascending.Given as goal
 
 abbrev pub invariant-loop-i : goal.invariant-loop-i

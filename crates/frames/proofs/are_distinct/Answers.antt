@@ -1,10 +1,8 @@
 -- `frames::are_distinct` meets its contract. The loop's invariant: what is left of the pages gives the answer. The measure is how many are left. Assumes nothing.
 use mathlib.Core.Path.{◌≡◌, refl, sym, ◌∙◌}
-use Prim.Native.Nat.{◌-◌}
 use native.Mathlib.Omega.{arith}
 use borrow.Author.Rules.{rules}
-use lib.ListN.{length, take, drop}
-use Rattle.frames.specs.Pages.{distinct}
+use lib.ListN.{length}
 use Rattle.frames.proofs.Turns.{distinct-hit, distinct-on, distinct-end}
 use Rattle.frames.proofs.are_distinct.Goals as goal
 

@@ -2,7 +2,6 @@
 use Prim.Native.Nat.{◌*◌}
 use native.Mathlib.Omega.{arith}
 use Rattle.frames.proofs.CopyLaws.{part_out}
-use borrow.Author.Rules.{rules}
 use Rattle.frames.proofs.copy_frame.Goals as goal
 
 pub returns-then-buf-slot : goal.returns-then-buf-slot

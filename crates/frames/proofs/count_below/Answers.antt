@@ -1,14 +1,12 @@
 -- `frames::count_below` meets its contract. The loop's invariant: the place is what was passed and the place in what is left. The measure is how many are left.
 -- Assumes nothing.
 use mathlib.Core.Path.{◌≡◌, sym}
-use Prim.Native.Nat.{◌+◌, ◌-◌, ◌≤◌}
 use native.Mathlib.Nat.{zero-add}
 use native.Mathlib.Omega.{arith}
 use borrow.Author.Rules.{rules}
-use lib.ListN.{length, take, drop}
+use lib.ListN.{length}
 use Rattle.sorted.proofs.Laws.{place-stop, place-on, place_end}
 use Rattle.frames.specs.Pages.{number}
-use Rattle.frames.specs.Inside.{below_in}
 use Rattle.frames.proofs.count_below.Goals as goal
 
 pub loop-i-init : goal.loop-i-init

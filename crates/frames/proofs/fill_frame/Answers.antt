@@ -6,7 +6,6 @@ use native.Mathlib.Omega.{arith}
 use Rattle.fields.specs.Files.{file_of}
 use Rattle.fields.proofs.Stored.{sets-out, lent-tail}
 use Rattle.frames.specs.Copies.{page_of}
-use borrow.Author.Rules.{rules}
 use Rattle.frames.proofs.fill_frame.Goals as goal
 
 pub returns-then-buf-slot : goal.returns-then-buf-slot

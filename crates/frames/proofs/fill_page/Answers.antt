@@ -2,7 +2,6 @@
 use native.Mathlib.Omega.{arith}
 use Rattle.fields.specs.Files.{file_of}
 use Rattle.frames.proofs.CopyLaws.{page-has, page-none}
-use borrow.Author.Rules.{rules}
 use Rattle.frames.proofs.fill_page.Goals as goal
 
 pub returns-then-p-len : goal.returns-then-p-len

@@ -4,7 +4,6 @@ use Prim.Native.Nat.{◌+◌, ◌-◌}
 use native.Mathlib.Omega.{arith}
 use lib.ListN.{length}
 use Rattle.frames.proofs.CopyLaws.{filled_none, filled-some, filled-all}
-use borrow.Author.Rules.{rules}
 use Rattle.frames.proofs.fill_part.Goals as goal
 
 pub returns-then-src-at : goal.returns-then-src-at

@@ -1,12 +1,11 @@
 -- `frames::find` meets its contract. The loop's invariant: what was passed does not hold the page, so that it stands in what is left or nowhere.
 -- The measure is how many are left. Assumes nothing.
 use mathlib.Core.Path.{◌≡◌, refl, sym, ◌∙◌}
-use Prim.Native.Nat.{◌+◌, ◌-◌, ◌≤◌}
 use native.Mathlib.Nat.{zero-add}
 use native.Mathlib.Omega.{arith}
 use borrow.Author.Rules.{rules}
-use lib.ListN.{length, drop}
-use Rattle.frames.specs.Pages.{is_in, slot_of, resident_of}
+use lib.ListN.{length}
+use Rattle.frames.specs.Pages.{resident_of}
 use Rattle.frames.proofs.Turns.{in-here, in_on, in_end, slot-here, slot-on, found_at, found_none}
 use Rattle.frames.proofs.find.Goals as goal
 

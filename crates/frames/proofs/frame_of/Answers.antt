@@ -5,7 +5,6 @@ use lib.ListN.{replicate}
 use Rattle.fields.specs.Bytes.{part}
 use Rattle.fields.proofs.ByteLaws.{length_part}
 use Rattle.frames.proofs.CopyLaws.{stored-whole}
-use borrow.Author.Rules.{rules}
 use Rattle.frames.proofs.frame_of.Goals as goal
 
 pub returns : goal.returns

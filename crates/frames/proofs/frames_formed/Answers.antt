@@ -4,7 +4,6 @@ use native.Mathlib.Omega.{arith}
 use borrow.Author.Tests.{not-true, not-false}
 use Rattle.frames.specs.Pages.{frame_count}
 use Rattle.frames.proofs.Values.{frames-over, frames-fit}
-use borrow.Author.Rules.{rules}
 use Rattle.frames.proofs.frames_formed.Goals as goal
 
 pub returns-then-most-n : goal.returns-then-most-n

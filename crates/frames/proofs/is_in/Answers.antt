@@ -1,12 +1,7 @@
 -- `frames::is_in` meets its contract. The loop's invariant: what was found, or is found in what is left of the pages. The measure is how many are left. Assumes nothing.
-use mathlib.Core.Path.{◌≡◌, refl, sym, ◌∙◌}
-use mathlib.Core.Bool.{◌||◌}
-use Prim.Native.Nat.{◌-◌}
+use mathlib.Core.Path.{refl, sym, ◌∙◌}
 use native.Mathlib.Omega.{arith}
-use borrow.Author.Rules.{rules}
-use lib.ListN.{length, take, drop}
 use Rattle.fields.proofs.Tests.{or-false}
-use Rattle.frames.specs.Pages.{is_in}
 use Rattle.frames.proofs.Turns.{in-turn, in_end}
 use Rattle.frames.proofs.is_in.Goals as goal
 

@@ -1,6 +1,5 @@
 -- `frames::mark` meets its contract: each of its three ways out is a law of proofs/Values.antt. Assumes nothing.
 use mathlib.Core.Path.{◌≡◌}
-use mathlib.Core.Logic.{⊎_elim}
 use Prim.Native.Nat.{◌<◌}
 use native.Mathlib.Omega.{arith}
 use lib.ListN.{length, get_or}
@@ -9,6 +8,7 @@ use Rattle.frames.specs.Pages.{number}
 use Rattle.frames.proofs.Values.{mark-hit, mark-over, mark-new}
 use borrow.Author.Rules.{rules}
 use Rattle.frames.proofs.mark.Goals as goal
+use Rattle.frames.proofs.mark.Goals.{then-p-n+else-pages-p, else-p-n}
 
 pub returns-then-pages-p : goal.returns-then-pages-p
 returns-then-pages-p c =
@@ -22,7 +22,7 @@ returns-then-n-ge-LIMIT c =
     let a = c.args in
     let h = c.held-n in
     let len : length a.t.pages ≡ 64 = search rules in
-    mark-over 64 a.t a.page h.result c.count_below-p.result len h.ensures c.count_below-p.ensures ((⊎_elim (λ w. w.1.left ) (λ w. let g = w.left in omega arith) c.if-p-n.branch)) (omega arith)
+    mark-over 64 a.t a.page h.result c.count_below-p.result len h.ensures c.count_below-p.ensures (λ h q. elim c.if-p-n.branch [ then-p-n+else-pages-p w ↦ w.if-pages-p.false q | else-p-n w ↦ omega arith ]) (omega arith)
 
 pub shifted-b-requires : goal.shifted-b-requires
 shifted-b-requires c =
@@ -35,5 +35,5 @@ returns c =
     let a = c.args in
     let h = c.held-n in
     let len : length a.t.pages ≡ 64 = search rules in
-    mark-new 64 a.t a.page h.result c.count_below-p.result len h.ensures c.count_below-p.ensures ((⊎_elim (λ w. w.1.left ) (λ w. let g = w.left in omega arith) c.if-p-n.branch)) c.shifted-b.result
+    mark-new 64 a.t a.page h.result c.count_below-p.result len h.ensures c.count_below-p.ensures (λ h q. elim c.if-p-n.branch [ then-p-n+else-pages-p w ↦ w.if-pages-p.false q | else-p-n w ↦ omega arith ]) c.shifted-b.result
     (omega arith) c.shifted-b.ensures

@@ -4,7 +4,6 @@ use lib.ListN.{replicate}
 use Rattle.fields.specs.Files.{file_of}
 use Rattle.frames.specs.Copies.{page_of}
 use Rattle.frames.proofs.CopyLaws.{stored-whole, length-page}
-use borrow.Author.Rules.{rules}
 use Rattle.frames.proofs.page_of.Goals as goal
 
 pub returns : goal.returns

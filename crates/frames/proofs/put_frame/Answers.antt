@@ -3,7 +3,6 @@ use mathlib.Core.Path.{sym}
 use Prim.Native.Nat.{◌*◌}
 use native.Mathlib.Omega.{arith}
 use Rattle.fields.proofs.Stored.{sets-out}
-use borrow.Author.Rules.{rules}
 use Rattle.frames.proofs.put_frame.Goals as goal
 
 pub returns-then-buf-slot : goal.returns-then-buf-slot

@@ -2,7 +2,6 @@
 use mathlib.Core.Path.{sym, ◌∙◌}
 use borrow.Author.Tests.{not-true, not-false}
 use Rattle.frames.proofs.Values.{touched-over, touched-fit}
-use borrow.Author.Rules.{rules}
 use Rattle.frames.proofs.touched_formed.Goals as goal
 
 pub returns-then-n-gt-LIMIT : goal.returns-then-n-gt-LIMIT

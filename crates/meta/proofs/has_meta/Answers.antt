@@ -1,6 +1,5 @@
 -- `meta::has_meta` meets its contract. Assumes nothing.
 use mathlib.Core.Path.{sym, ◌∙◌}
-use borrow.Author.Rules.{rules}
 use Rattle.meta.specs.Page.{meta_magic}
 use Rattle.meta.proofs.Laws.{meta-short, meta-long}
 use Rattle.meta.proofs.has_meta.Goals as goal

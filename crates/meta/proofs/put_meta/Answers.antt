@@ -1,7 +1,6 @@
 -- `meta::put_meta` meets its contract: past the end nothing is stored, and the page written in the lent part is written in the whole. Assumes nothing.
 use mathlib.Core.Path.{sym}
 use native.Mathlib.Omega.{arith}
-use borrow.Author.Rules.{rules}
 use Rattle.fields.proofs.Stored.{sets-out, lent-tail}
 use Rattle.meta.specs.Page.{meta_page}
 use Rattle.meta.proofs.put_meta.Goals as goal

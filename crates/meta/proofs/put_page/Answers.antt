@@ -1,5 +1,4 @@
 -- `meta::put_page` meets its contract: the fields one after the other are the page. Assumes nothing.
-use borrow.Author.Rules.{rules}
 use Rattle.meta.specs.Page.{meta_magic}
 use Rattle.meta.proofs.Laws.{meta-laid}
 use Rattle.meta.proofs.put_page.Goals as goal

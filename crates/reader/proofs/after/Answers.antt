@@ -1,5 +1,4 @@
 -- `reader::after` meets its contract: each arm is given which answer the reading gave, and the reading's contract says where to read next. Assumes nothing.
-use borrow.Author.Rules.{rules}
 use Rattle.fields.specs.Files.{file_of}
 use Rattle.reader.proofs.PlaceLaws.{next-after}
 use Rattle.reader.proofs.after.Goals as goal

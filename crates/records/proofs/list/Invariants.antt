@@ -1,6 +1,5 @@
 -- `records::list` ends: a turn is taken from those that are left. Assumes nothing.
 use Prim.Native.Nat.{◌≤◌}
-use borrow.Author.Rules.{rules}
 use Rattle.records.proofs.list.Given as goal
 
 abbrev pub invariant-loop-left : goal.invariant-loop-left

@@ -1,6 +1,5 @@
 -- `records::report` is safe: the log is the buffer but for its last byte. Assumes nothing.
 use native.Mathlib.Omega.{arith}
-use borrow.Author.Rules.{rules}
 use lib.ListN.{length-take}
 use Rattle.records.proofs.report.Goals as goal
 

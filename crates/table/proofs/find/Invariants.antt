@@ -1,13 +1,10 @@
 -- `table::find` meets its contract. The loop's invariant: a look-up in what is left of the entries gives what a look-up in all of them gives.
 -- The measure is how many are left. Assumes nothing.
 use Prim.Native.Nat.{◌≤◌, ◌-◌}
-use mathlib.Core.Path.{◌≡◌, refl, sym, ap, ◌∙◌}
-use native.Mathlib.Omega.{arith}
-use borrow.Author.Rules.{rules}
-use lib.ListN.{length, drop}
+use mathlib.Core.Path.{◌≡◌}
+use lib.ListN.{drop}
 use Rattle.sorted.specs.Sorted.{look_by}
-use Rattle.sorted.proofs.Laws.{look-here, look-on, look-end, length-of-mapped}
-use Rattle.table.specs.Entries.{status_of, known_of, list_of, id_of, blank}
+use Rattle.table.specs.Entries.{list_of, id_of}
 use Rattle.table.proofs.find.Given as goal
 
 abbrev pub invariant-loop-i : goal.invariant-loop-i

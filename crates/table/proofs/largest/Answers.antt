@@ -1,12 +1,10 @@
 -- `table::largest` meets its contract. The loop's invariant: the larger of the number held and the largest of what is left is the largest of all.
 -- The measure is how many are left. Assumes nothing.
-use Prim.Native.Nat.{◌≤◌, ◌-◌, max}
 use mathlib.Core.Path.{◌≡◌}
 use native.Mathlib.Omega.{arith}
 use borrow.Author.Rules.{rules}
-use lib.ListN.{length, drop}
+use lib.ListN.{length}
 use Rattle.sorted.proofs.Laws.{length-of-mapped}
-use Rattle.table.specs.Entries.{largest_by, list_of}
 use Rattle.table.specs.Inside.{number_of}
 use Rattle.table.proofs.Laws.{largest-on, largest-end}
 use Rattle.table.proofs.largest.Goals as goal

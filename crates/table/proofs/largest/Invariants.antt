@@ -2,13 +2,9 @@
 -- The measure is how many are left. Assumes nothing.
 use Prim.Native.Nat.{◌≤◌, ◌-◌, max}
 use mathlib.Core.Path.{◌≡◌}
-use native.Mathlib.Omega.{arith}
-use borrow.Author.Rules.{rules}
-use lib.ListN.{length, drop}
-use Rattle.sorted.proofs.Laws.{length-of-mapped}
+use lib.ListN.{drop}
 use Rattle.table.specs.Entries.{largest_by, list_of}
 use Rattle.table.specs.Inside.{number_of}
-use Rattle.table.proofs.Laws.{largest-on, largest-end}
 use Rattle.table.proofs.largest.Given as goal
 
 abbrev pub invariant-loop-i : goal.invariant-loop-i

@@ -1,5 +1,4 @@
 -- `table::largest_id` meets its contract: the number is what `largest` ensures. Assumes nothing.
-use borrow.Author.Rules.{rules}
 use Rattle.table.proofs.largest_id.Goals as goal
 
 pub returns : goal.returns

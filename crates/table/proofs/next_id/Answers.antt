@@ -1,5 +1,4 @@
 -- `table::next_id` meets its contract: the number is what `one_more` ensures. Assumes nothing.
-use borrow.Author.Rules.{rules}
 use Rattle.table.proofs.next_id.Goals as goal
 
 pub returns : goal.returns

@@ -1,13 +1,8 @@
 -- `table::place` meets its contract. The loop's invariant: the place is what was passed and the place in what is left. The measure is how many are left.
 -- Assumes nothing.
 use Prim.Native.Nat.{◌≤◌, ◌-◌, ◌+◌}
-use mathlib.Core.Path.{◌≡◌, sym}
-use native.Mathlib.Nat.{zero-add}
-use native.Mathlib.Omega.{arith}
-use borrow.Author.Rules.{rules}
-use lib.ListN.{length, take, drop}
-use Rattle.sorted.proofs.Laws.{place-stop, place-on, place_end}
-use Rattle.table.specs.Entries.{id_of, blank}
+use mathlib.Core.Path.{◌≡◌}
+use lib.ListN.{take, drop}
 use Rattle.table.specs.Inside.{place_of}
 use Rattle.table.proofs.place.Given as goal
 

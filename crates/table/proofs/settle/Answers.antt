@@ -1,11 +1,11 @@
 -- `table::settle` meets its contract. The loop's invariant: the first i entries are settled, the others are as they were. The measure is how many are left.
 -- Assumes nothing.
-use Prim.Native.Nat.{◌≤◌, ◌-◌, min}
+use Prim.Native.Nat.{min}
 use mathlib.Core.Path.{◌≡◌, refl, sym, ◌∙◌}
-use mathlib.Core.List.{◌++◌, map}
+use mathlib.Core.List.{map}
 use native.Mathlib.Omega.{arith}
 use borrow.Author.Rules.{rules}
-use lib.ListN.{length, take, drop, length-map}
+use lib.ListN.{length, length-map}
 use Rattle.sorted.proofs.Laws.{map-step, take_min, length-min, length-of-mapped}
 use Rattle.table.specs.Entries.{settled_entry, blank, list_of, settled_table}
 use Rattle.table.proofs.Laws.{laid-is}

@@ -1,5 +1,4 @@
 -- `table::settled_entry` meets its contract: the status is what `settled_status` ensures. Assumes nothing.
-use borrow.Author.Rules.{rules}
 use Rattle.table.proofs.settled_entry.Goals as goal
 
 pub returns : goal.returns

@@ -1,5 +1,4 @@
 -- `table::settled_status` meets its contract, by what is known in each arm. Assumes nothing.
-use borrow.Author.Rules.{rules}
 use Rattle.table.proofs.settled_status.Goals as goal
 
 pub returns-in-Active : goal.returns-in-Active

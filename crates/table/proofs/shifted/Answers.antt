@@ -1,11 +1,10 @@
 -- `table::shifted` meets its contract. The loop's invariant: the entries from i to `to` have moved up by one. The measure is i. Assumes nothing.
 use Rattle.table.specs.Entries.{blank}
-use Prim.Native.Nat.{◌≤◌, ◌-◌}
 use mathlib.Core.Path.{◌≡◌}
 use native.Mathlib.Omega.{arith}
 use borrow.Author.Rules.{rules}
 use lib.ListN.{length}
-use Rattle.sorted.proofs.Laws.{moved, moved_none, moved_more, moved-put}
+use Rattle.sorted.proofs.Laws.{moved_none, moved_more, moved-put}
 use Rattle.table.proofs.shifted.Goals as goal
 
 pub loop-i-init : goal.loop-i-init

@@ -1,11 +1,7 @@
 -- `table::shifted` meets its contract. The loop's invariant: the entries from i to `to` have moved up by one. The measure is i. Assumes nothing.
-use Rattle.table.specs.Entries.{blank}
 use Prim.Native.Nat.{◌≤◌, ◌-◌}
 use mathlib.Core.Path.{◌≡◌}
-use native.Mathlib.Omega.{arith}
-use borrow.Author.Rules.{rules}
-use lib.ListN.{length}
-use Rattle.sorted.proofs.Laws.{moved, moved_none, moved_more, moved-put}
+use Rattle.sorted.proofs.Laws.{moved}
 use Rattle.table.proofs.shifted.Given as goal
 
 abbrev pub invariant-loop-i : goal.invariant-loop-i

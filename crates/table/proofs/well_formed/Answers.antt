@@ -2,11 +2,11 @@
 -- Assumes nothing.
 use borrow.Author.Tests.{lt-leb, le-leb}
 use mathlib.Core.Bool.{false}
-use Prim.Native.Nat.{◌≤◌, ◌-◌, ◌+◌, max}
+use Prim.Native.Nat.{◌-◌, ◌+◌}
 use mathlib.Core.Path.{◌≡◌, refl, ◌∙◌}
 use native.Mathlib.Omega.{arith}
 use borrow.Author.Rules.{rules}
-use lib.ListN.{length, drop}
+use lib.ListN.{length}
 use Rattle.sorted.proofs.Laws.{ascending-on, ascending-stop, ascending-end, length-of-mapped}
 use Rattle.table.specs.Entries.{ascending, list_of, id_of, blank, well_formed}
 use Rattle.table.proofs.well_formed.Goals as goal

@@ -1,14 +1,9 @@
 -- `table::well_formed` meets its contract. The loop's invariant: the ids are ascending if they are from entry i - 1 on. The measure is how many are left.
 -- Assumes nothing.
-use borrow.Author.Tests.{lt-leb, le-leb}
-use mathlib.Core.Bool.{false}
-use Prim.Native.Nat.{◌≤◌, ◌-◌, ◌+◌, max}
-use mathlib.Core.Path.{◌≡◌, refl, ◌∙◌}
-use native.Mathlib.Omega.{arith}
-use borrow.Author.Rules.{rules}
-use lib.ListN.{length, drop}
-use Rattle.sorted.proofs.Laws.{ascending-on, ascending-stop, ascending-end, length-of-mapped}
-use Rattle.table.specs.Entries.{ascending, list_of, id_of, blank, well_formed}
+use Prim.Native.Nat.{◌≤◌, ◌-◌, max}
+use mathlib.Core.Path.{◌≡◌}
+use lib.ListN.{drop}
+use Rattle.table.specs.Entries.{ascending, list_of}
 use Rattle.table.proofs.well_formed.Given as goal
 
 abbrev pub invariant-loop-i : goal.invariant-loop-i

@@ -9,6 +9,7 @@ use Rattle.table.specs.Entries.{blank, id_of}
 use Rattle.table.proofs.Laws.{with-hit, with-full, with-new}
 use borrow.Author.Rules.{rules}
 use Rattle.table.proofs.with_status.Goals as goal
+use Rattle.table.proofs.with_status.Goals.{then-p-n+else-x-id, else-p-n}
 
 pub returns-then-x-id : goal.returns-then-x-id
 returns-then-x-id c =
@@ -20,7 +21,7 @@ pub returns-then-n-ge-LIMIT : goal.returns-then-n-ge-LIMIT
 returns-then-n-ge-LIMIT c =
     let t = c.args.t in
     let len : length t.entries ≡ 256 = search (rules, length-of-mapped) in
-    with-full 256 t _ c.held-n.result c.place-p.result len c.held-n.ensures c.place-p.ensures ((⊎_elim (λ w. w.4.left ) (λ w. let g = w.left in omega arith) c.if-p-n.branch)) (omega arith)
+    with-full 256 t _ c.held-n.result c.place-p.result len c.held-n.ensures c.place-p.ensures (λ h q. elim c.if-p-n.branch [ then-p-n+else-x-id w ↦ w.if-x-id.false q | else-p-n w ↦ omega arith ]) (omega arith)
 
 pub shifted-b-requires : goal.shifted-b-requires
 shifted-b-requires c =
@@ -33,4 +34,4 @@ pub returns : goal.returns
 returns c =
     let t = c.args.t in
     let len : length t.entries ≡ 256 = search (rules, length-of-mapped) in
-    with-new 256 t _ c.held-n.result c.place-p.result len c.held-n.ensures c.place-p.ensures ((⊎_elim (λ w. w.4.left ) (λ w. let g = w.left in omega arith) c.if-p-n.branch)) c.shifted-b.result (omega arith) c.shifted-b.ensures
+    with-new 256 t _ c.held-n.result c.place-p.result len c.held-n.ensures c.place-p.ensures (λ h q. elim c.if-p-n.branch [ then-p-n+else-x-id w ↦ w.if-x-id.false q | else-p-n w ↦ omega arith ]) c.shifted-b.result (omega arith) c.shifted-b.ensures

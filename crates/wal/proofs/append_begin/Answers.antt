@@ -1,6 +1,5 @@
 -- `wal::append_begin` meets its contract: a tag and an id. Assumes nothing.
-use borrow.Author.Rules.{rules}
-use Rattle.wal.specs.Records.{encode, image, commit, checkpoint, begin, abort}
+use Rattle.wal.specs.Records.{encode}
 use Rattle.wal.specs.Writing.{appended}
 use Rattle.wal.proofs.append_begin.Goals as goal
 

@@ -1,12 +1,8 @@
 -- `wal::append_checkpoint` meets its contract. Assumes nothing.
 -- an append that is accepted has room
-use mathlib.Core.Path.{refl, sym, ◌∙◌}
-use mathlib.Core.List.{◌∷◌, []}
-use Prim.Native.Nat.{◌+◌, ◌≤◌}
-use lib.ListN.{length}
+use mathlib.Core.Path.{refl}
 use native.Mathlib.Omega.{arith}
-use borrow.Author.Rules.{rules}
-use Rattle.wal.specs.Records.{encode, image, commit, checkpoint, begin, abort}
+use Rattle.wal.specs.Records.{encode, checkpoint}
 use Rattle.wal.specs.Writing.{appended}
 use Rattle.wal.proofs.WriteLaws.{bytes-refused, bytes-accepted, has_room}
 use Rattle.wal.proofs.append_checkpoint.Goals as goal

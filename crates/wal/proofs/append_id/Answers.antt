@@ -1,11 +1,8 @@
 -- `wal::append_id` meets its contract. Assumes nothing.
 -- an append that is accepted has room
-use mathlib.Core.Path.{refl, sym, ◌∙◌}
-use mathlib.Core.List.{◌∷◌, []}
-use Prim.Native.Nat.{◌+◌, ◌≤◌}
-use lib.ListN.{length}
+use mathlib.Core.Path.{refl}
+use mathlib.Core.List.{◌∷◌}
 use native.Mathlib.Omega.{arith}
-use borrow.Author.Rules.{rules}
 use Rattle.fields.specs.Bytes.{bytes_of}
 use Rattle.wal.proofs.WriteLaws.{bytes-refused, bytes-accepted, has_room, id-size}
 use Rattle.wal.proofs.append_id.Goals as goal

@@ -1,7 +1,6 @@
 -- `wal::append_no` meets its contract. Assumes nothing.
 use mathlib.Core.Path.{sym, ◌∙◌}
 use native.Mathlib.Omega.{arith}
-use borrow.Author.Rules.{rules}
 use Rattle.fields.proofs.FileLaws.{fit-means}
 use Rattle.wal.proofs.WriteLaws.{append-1, append-10, append-4, append-0}
 use Rattle.wal.proofs.append_no.Goals as goal

@@ -1,12 +1,9 @@
 -- `wal::append_page` meets its contract. Assumes nothing.
 -- an append that is accepted has room
-use mathlib.Core.Path.{refl, sym, ◌∙◌}
-use mathlib.Core.List.{◌∷◌, []}
-use Prim.Native.Nat.{◌+◌, ◌≤◌}
-use lib.ListN.{length}
+use mathlib.Core.Path.{refl}
 use native.Mathlib.Omega.{arith}
 use borrow.Author.Rules.{rules}
-use Rattle.wal.specs.Records.{encode, image, commit, checkpoint, begin, abort}
+use Rattle.wal.specs.Records.{encode, image}
 use Rattle.wal.specs.Writing.{appended}
 use Rattle.wal.proofs.WriteLaws.{bytes-refused, bytes-accepted, has_room, page-size}
 use Rattle.wal.proofs.append_page.Goals as goal

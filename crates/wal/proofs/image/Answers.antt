@@ -2,7 +2,6 @@
 use mathlib.Core.Path.{◌≡◌, sym, refl}
 use Prim.Native.Nat.{◌+◌, ◌-◌}
 use native.Mathlib.Omega.{arith}
-use borrow.Author.Rules.{rules}
 use Rattle.wal.proofs.ReadLaws.{no-image, some-image}
 use Rattle.wal.proofs.image.Goals as goal
 

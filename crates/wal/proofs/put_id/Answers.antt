@@ -1,6 +1,5 @@
 -- `wal::put_id` meets its contract: the tag, then the id's bytes. Assumes nothing.
 use mathlib.Core.Path.{◌∙◌}
-use borrow.Author.Rules.{rules}
 use lib.ListN.{length-set}
 use Rattle.fields.specs.Bytes.{bytes_of}
 use Rattle.wal.proofs.WriteLaws.{tag-laid}

@@ -1,6 +1,5 @@
 -- `wal::put_page` meets its contract: the tag, the page number, the page. Assumes nothing.
 use mathlib.Core.Path.{◌∙◌}
-use borrow.Author.Rules.{rules}
 use lib.ListN.{length-set}
 use Rattle.wal.proofs.WriteLaws.{page-laid}
 use Rattle.wal.proofs.put_page.Goals as goal

@@ -1,7 +1,6 @@
 -- `wal::read_record` meets its contract: each `return` is a case of `read_in`, by the tests that led there. Assumes nothing.
 use mathlib.Core.Path.{sym, refl, ◌∙◌}
 use native.Mathlib.Omega.{arith}
-use borrow.Author.Rules.{rules}
 use lib.ListN.{length-take}
 use Rattle.fields.proofs.FileLaws.{fit-means}
 use Rattle.wal.proofs.ReadLaws.{read-unfit, read_past, read-end, read_low, read-high, read-torn, read_one}

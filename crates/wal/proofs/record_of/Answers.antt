@@ -1,6 +1,5 @@
 -- `wal::record_of` meets its contract: each arm reads the fields of the record that the tag names. Assumes nothing.
 use mathlib.Core.Path.{◌∙◌}
-use borrow.Author.Rules.{rules}
 use lib.ListN.{drop}
 use lib.Seq.{drop-drop}
 use Rattle.wal.proofs.RecordLaws.{is-five}

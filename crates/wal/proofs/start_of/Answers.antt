@@ -1,7 +1,6 @@
 -- `wal::start_of` meets its contract. Assumes nothing.
 use mathlib.Core.Path.{sym, ◌∙◌}
 use native.Mathlib.Omega.{arith}
-use borrow.Author.Rules.{rules}
 use lib.ListN.{length-take}
 use Rattle.wal.specs.Records.{log_magic}
 use Rattle.wal.proofs.ReadLaws.{start-magic, start_none}

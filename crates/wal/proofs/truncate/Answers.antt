@@ -1,7 +1,6 @@
 -- `wal::truncate` meets its contract. Assumes nothing.
 use mathlib.Core.Path.{sym, ◌∙◌}
 use native.Mathlib.Omega.{arith}
-use borrow.Author.Rules.{rules}
 use Rattle.wal.specs.Records.{log_magic}
 use Rattle.wal.proofs.WriteLaws.{truncate-1, truncate-4, truncate-0}
 use Rattle.wal.proofs.truncate.Goals as goal
