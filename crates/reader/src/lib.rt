@@ -1,6 +1,5 @@
 // The log reader: a struct that holds the log, its length and a place in it, and thin functions over it. What is done of the log is done by wal's
-// functions and by `after`; each function over the struct is proved by a walk by hand, since the borrow checker covers no function over such a struct.
-// The functions over plain slices at the end are for callers that want no such walk.
+// functions and by `after`. The functions over plain slices at the end are for callers that want no reader of their own.
 ghost use Rattle.std.specs.Prelude.{◌≡◌};
 ghost use Rattle.fields.specs.Files.{file_of};
 ghost use Rattle.wal.specs.Reading.{read_told, read_in, start_in, IsImage};

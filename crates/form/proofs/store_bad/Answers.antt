@@ -28,7 +28,7 @@ returns-then-not-well_formed c =
       form-is 4096 a.s a.size ((record { entries = search (rules, length-of-mapped); pages = search rules; touched = search rules })),
       le-ltb a.s.lens.log 8 c.if-lens-lt-HEADER.false,
       le-ltb a.s.lens.clog 8 c.if-lens-lt-HEADER-2.false,
-      ← ⟦c.before.well-formed-2.ensures⟧,
+      ← c.well_formed-2.ensures,
       c.if-not-well_formed.true-raw,
     )
 
@@ -39,7 +39,7 @@ returns-then-not-touched_formed c =
       form-is 4096 a.s a.size ((record { entries = search (rules, length-of-mapped); pages = search rules; touched = search rules })),
       le-ltb a.s.lens.log 8 c.if-lens-lt-HEADER.false,
       le-ltb a.s.lens.clog 8 c.if-lens-lt-HEADER-2.false,
-      ← ⟦table.before.well-formed-2.ensures⟧,
+      ← c.well_formed-2.ensures,
       c.if-not-well_formed.false-raw,
       ← c.touched_formed.ensures,
       c.if-not-touched_formed.true-raw,
@@ -52,7 +52,7 @@ returns c =
       form-is 4096 a.s a.size ((record { entries = search (rules, length-of-mapped); pages = search rules; touched = search rules })),
       le-ltb a.s.lens.log 8 c.if-lens-lt-HEADER.false,
       le-ltb a.s.lens.clog 8 c.if-lens-lt-HEADER-2.false,
-      ← ⟦table.before.well-formed-2.ensures⟧,
+      ← c.well_formed-2.ensures,
       c.if-not-well_formed.false-raw,
       ← c.touched_formed.ensures,
       c.if-not-touched_formed.false-raw,

@@ -9,4 +9,4 @@ pub returns : goal.returns
 returns c =
     let a = c.args in
     let big : 4294967295 < a.x = search rules in
-    far-in a.x a.resident.now a.n (λ i p. omega (arith, ⟦c.before.shared-slice-known.given⟧ i))
+    far-in a.x a.resident.now a.n (λ i p. omega (arith, (c.type_inv.resident i).fits))

@@ -9,14 +9,14 @@ returns-then-before-ne-ACCEPTED c = let a = c.args in no-before 256 a.t a.room a
 pub returns-then-not-well_formed : goal.returns-then-not-well_formed
 returns-then-not-well_formed c =
     let a = c.args in
-    no-form 256 a.t a.room a.before c.if-before-ne-ACCEPTED.false _ ⟦c.before.well-formed-2.ensures⟧ c.if-not-well_formed.true-raw
+    no-form 256 a.t a.room a.before c.if-before-ne-ACCEPTED.false _ c.well_formed-2.ensures c.if-not-well_formed.true-raw
 
 pub returns-then-room-t : goal.returns-then-room-t
 returns-then-room-t c =
     let a = c.args in
-    no_short 256 a.t a.room a.before c.if-before-ne-ACCEPTED.false _ ⟦two.before.well-formed-2.ensures⟧ c.if-not-well_formed.false-raw c.if-room-t.true
+    no_short 256 a.t a.room a.before c.if-before-ne-ACCEPTED.false _ c.well_formed-2.ensures c.if-not-well_formed.false-raw c.if-room-t.true
 
 pub returns : goal.returns
 returns c =
     let a = c.args in
-    no_none 256 a.t a.room a.before c.if-before-ne-ACCEPTED.false _ ⟦two.before.well-formed-2.ensures⟧ c.if-not-well_formed.false-raw c.if-room-t.false
+    no_none 256 a.t a.room a.before c.if-before-ne-ACCEPTED.false _ c.well_formed-2.ensures c.if-not-well_formed.false-raw c.if-room-t.false
