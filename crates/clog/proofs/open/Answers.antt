@@ -17,6 +17,11 @@ slice_bounds-begins-end-2 c =
     let f = reset-fits _ _ _ c.reset_no-no.ensures c.if-no-ne-ACCEPTED.false in
     f.1
 
+pub slice_bounds-begins-end-3 : goal.slice_bounds-begins-end-3
+slice_bounds-begins-end-3 c =
+    let f = reset-fits _ _ _ c.reset_no-no.ensures c.if-no-ne-ACCEPTED.false in
+    sym (length-take-le c.args.len c.args.clog.now f.1)
+
 pub returns-then-valid : goal.returns-then-valid
 unfolding clog_magic valid_clog
 returns-then-valid c =

@@ -3,11 +3,11 @@ use borrow.Author.Rules.{rules}
 use mathlib.Core.Path.{◌≡◌, ◌∙◌}
 use Prim.Native.Nat.{◌-◌}
 use native.Mathlib.Omega.{arith}
-use mathlib.Core.Logic.{⊎_elim}
 use Rattle.clog.proofs.span_below.Goals as goal
+use Rattle.clog.proofs.span_below.Goals.{then-len-lt-HEADER, else-len-lt-HEADER}
 
 pub returns : goal.returns
 returns c =
     let n = c.if-len-lt-HEADER in
-    let e : n.n ≡ c.args.len - 8 = ⊎_elim (λ w. omega arith) (λ w. omega arith) n.branch in
+    let e : n.n ≡ c.args.len - 8 = elim n.branch [ then-len-lt-HEADER w ↦ omega arith | else-len-lt-HEADER w ↦ omega arith ] in
     c.span.ensures ∙ rw e

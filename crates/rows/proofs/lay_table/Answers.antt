@@ -19,7 +19,8 @@ loop-i-preserved c =
     let l = c.loop-i in
     let a = c.args in
     let len : length a.rows.now ≡ 256 = search rules in
-    (omega arith, rw (l.invariant.1, c.row_of.ensures) (table_on a.t.entries a.rows.now l.i blank (omega (arith, (search (rules, length-of-mapped)))) (omega arith)))
+    let held256 : length a.t.entries ≡ 256 = search (rules, length-of-mapped) in
+    (omega arith, rw (l.invariant.1, c.row_of.ensures) (table_on a.t.entries a.rows.now l.i blank (omega (arith, held256)) (omega arith)))
 
 pub returns : goal.returns
 returns c =

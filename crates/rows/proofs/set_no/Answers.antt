@@ -1,6 +1,5 @@
 -- `rows::set_no` meets its contract: the three ways out of `with_status`, without its change. Assumes nothing.
 use mathlib.Core.Path.{◌≡◌, refl, ap}
-use mathlib.Core.Logic.{⊎_elim}
 use Prim.Native.Nat.{◌<◌}
 use native.Mathlib.Omega.{arith}
 use lib.ListN.{length, get_or}
@@ -9,6 +8,7 @@ use Rattle.rows.specs.Rows.{row_id, row_kept}
 use Rattle.rows.proofs.Laws.{no_row, with-hit, with-full, with-new}
 use borrow.Author.Rules.{rules}
 use Rattle.rows.proofs.set_no.Goals as goal
+use Rattle.rows.proofs.set_no.Goals.{then-p-n+else-rows-p, else-p-n}
 
 pub returns-then-rows-p : goal.returns-then-rows-p
 returns-then-rows-p c =
@@ -20,10 +20,10 @@ pub returns-then-n-ge-LIMIT : goal.returns-then-n-ge-LIMIT
 returns-then-n-ge-LIMIT c =
     let a = c.args in
     let len : length a.rows.now ≡ 256 = search rules in
-    ap row_kept (with-full 256 a.rows.now a.count (record { id = a.id; status = Active }) c.held-n.result c.place-p.result len c.held-n.ensures c.place-p.ensures ((⊎_elim (λ w. w.3.left ) (λ w. let g = w.left in omega arith) c.if-p-n.branch)) (omega arith))
+    ap row_kept (with-full 256 a.rows.now a.count (record { id = a.id; status = Active }) c.held-n.result c.place-p.result len c.held-n.ensures c.place-p.ensures (λ h q. elim c.if-p-n.branch [ then-p-n+else-rows-p w ↦ w.if-rows-p.false q | else-p-n w ↦ omega arith ]) (omega arith))
 
 pub returns : goal.returns
 returns c =
     let a = c.args in
     let len : length a.rows.now ≡ 256 = search rules in
-    ap row_kept (with-new 256 a.rows.now a.count (record { id = a.id; status = Active }) c.held-n.result c.place-p.result len c.held-n.ensures c.place-p.ensures ((⊎_elim (λ w. w.3.left ) (λ w. let g = w.left in omega arith) c.if-p-n.branch)) _ (omega arith) refl)
+    ap row_kept (with-new 256 a.rows.now a.count (record { id = a.id; status = Active }) c.held-n.result c.place-p.result len c.held-n.ensures c.place-p.ensures (λ h q. elim c.if-p-n.branch [ then-p-n+else-rows-p w ↦ w.if-rows-p.false q | else-p-n w ↦ omega arith ]) _ (omega arith) refl)
