@@ -398,8 +398,8 @@ pub commit-applied : (P : ℕ) (w : World) (id : TransactionId) (f : Files) → 
     (apply_all P (writes P w (held w.mem))
     (apply P (Log (commit id.0 w.mem.time.0))
     (apply_all P (images P w (held w.mem)) f))))))
-unfolding commit_steps
-commit-applied P w id f = rw apply-append (unfold apply_all in rw apply-append)
+unfolding commit_steps apply_all
+commit-applied P w id f = apply-append P (images P w (held w.mem)) _ f ∙ apply-append P (writes P w (held w.mem)) _ _
 
 pub commit-files : (P : ℕ) (w : World) (id : TransactionId) → w.mem.slot ≡ Installed id → (done P Commit w).files ≡ apply_all P (commit_steps P w (Installed id)) w.files
 unfolding done

@@ -18,6 +18,12 @@ returns-then-bad_length c =
     let a = c.args in
     sym (second-unfit a.mark a.len a.size a.clog.now (sym c.bad_length.ensures ∙ c.if-bad_length.true))
 
+pub slice_bounds-begins-end-2 : goal.slice_bounds-begins-end-2
+slice_bounds-begins-end-2 c =
+    let a = c.args in
+    let f = fit-means 8 _ _ (sym c.bad_length.ensures ∙ c.if-bad_length.false) in
+    sym (length-take-le a.len a.clog.now f.1)
+
 pub returns-then-not-begins : goal.returns-then-not-begins
 unfolding clog_magic
 returns-then-not-begins c =

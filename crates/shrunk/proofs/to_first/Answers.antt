@@ -37,11 +37,9 @@ pub slice_bounds-lay-end-2 : goal.slice_bounds-lay-end-2
 slice_bounds-lay-end-2 c =
     (first-means _ _ _ c.first_no-no.ensures c.if-no-ne-ACCEPTED.false).1
 
--- ??
-sub-t8 : tie.Need-overflow-sub-t8
-sub-t8 c =
-    let e = c.before.before.before.before.before.before.before.before.before.before.before.before.before.before.before.before.before in
-    (first-means _ _ _ e.before.first-no.ensures e.if1.false).3
+pub overflow_sub-result : goal.overflow_sub-result
+overflow_sub-result c =
+    (first-means _ _ _ c.first_no-no.ensures c.if-no-ne-ACCEPTED.false).3
 
 pub overflow_add-result : goal.overflow_add-result
 overflow_add-result c =

@@ -5,7 +5,7 @@ use borrow.Author.Rules.{rules}
 use Rattle.slots.proofs.show_table.Given as goal
 
 abbrev pub invariant-loop-i : goal.invariant-loop-i
-invariant-loop-i l = (i ≤ l.n) × (l.n ≤ 256)
+invariant-loop-i l = (l.i ≤ l.n) × (l.n ≤ 256)
 
 abbrev pub decreases-loop-i : goal.decreases-loop-i
-decreases-loop-i l = l.n - i
+decreases-loop-i l = l.n - l.i
