@@ -9,5 +9,5 @@ returns c =
     let k = c.carry_on-cut in
     let g = c.give_back in
     let f = c.lay_meta in
-    files-out 4096 a.m a.log.now a.db.now a.clog.now a.frames.now k.result k.new.from.1.1.1.0 k.new.from.1.1.1.1.0
-    k.new.from.1.1.1.1.1.0 g.new.db.1.1.0 f.new.frames k.ensures g.ensures f.ensures
+    files-out 4096 a.m a.log.now a.db.now a.clog.now a.frames.now k.result k.new.log k.new.db
+    k.new.clog g.new.frames f.new.frames k.ensures g.ensures f.ensures

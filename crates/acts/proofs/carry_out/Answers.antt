@@ -12,5 +12,5 @@ returns c =
     let k = c.carry_files-end in
     let x = c.change_arrays-after in
     whole_out 4096 a.m a.rows.now a.resident.now a.touched.now a.log.now a.db.now a.clog.now a.frames.now _ k.result x.result
-    x.new.size.1.0 x.new.size.1.1.0 x.new.size.1.1.1.0 k.new.log.0 k.new.log.1.0 k.new.log.1.1.0 k.new.log.1.1.1.0
+    x.new.rows x.new.resident x.new.touched k.new.log k.new.db k.new.clog k.new.frames
     refl k.ensures x.ensures

@@ -7,5 +7,5 @@ pub returns : goal.returns
 returns c =
     let a = c.args in
     let k = c.carry_on-cut in
-    cut_out 4096 a.m a.log.now a.db.now a.clog.now a.frames.now k.result k.new.from.1.1.1.0 k.new.from.1.1.1.1.0
-    k.new.from.1.1.1.1.1.0 a.k k.ensures
+    cut_out 4096 a.m a.log.now a.db.now a.clog.now a.frames.now k.result k.new.log k.new.db
+    k.new.clog a.k k.ensures

@@ -42,4 +42,4 @@ returns c =
     let a = c.args in
     let e0 : front_no 4096 (world_of a.s a.log.now a.db.now a.clog.now a.frames.now) ≡ 0 = sym c.front_no-no.ensures ∙ c.if-no-ne-ACCEPTED.false in
     let good = sym (touched-bad a.x.touched ((search rules))) ∙ ap not (sym c.touched_formed.ensures) ∙ c.if-not-touched_formed.false-raw in
-    install-out 4096 a.x a.s a.log.now a.db.now a.clog.now a.frames.now good e0 (sym c.is_installed.ensures ∙ c.if-is_installed.false) ((record { entries = search (rules, length-of-mapped); pages = search (rules, ⟦c.well-formed.0.1.1.1.1.1.1⟧); touched = search (rules, ⟦c.well-formed.0.1.1.1.1.1.1.1.1.1⟧); })) ((search rules))
+    install-out 4096 a.x a.s a.log.now a.db.now a.clog.now a.frames.now good e0 (sym c.is_installed.ensures ∙ c.if-is_installed.false) ((record { entries = search (rules, length-of-mapped); pages = search (rules, c.well_formed.0.1.1.1.1.1.1); touched = search (rules, c.well_formed.0.1.1.1.1.1.1.1.1.1); })) ((search rules))

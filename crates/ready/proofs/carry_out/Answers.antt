@@ -12,7 +12,7 @@ returns c =
     let k = c.carry_on-cut in
     let g = c.give_back in
     let f = c.lay_meta in
-    let db = k.new.from.1.1.1.1.0 in
-    let fine = framed-out 4096 (file_of db k.result.lens.db) a.r a.frames.now g.new.db.1.1.0 f.new.frames g.ensures f.ensures in
-    carried-done 4096 a.r a.frames.now a.log.now a.db.now a.clog.now k.result k.new.from.1.1.1.0 db k.new.from.1.1.1.1.1.0
+    let db = k.new.db in
+    let fine = framed-out 4096 (file_of db k.result.lens.db) a.r a.frames.now g.new.frames f.new.frames g.ensures f.ensures in
+    carried-done 4096 a.r a.frames.now a.log.now a.db.now a.clog.now k.result k.new.log db k.new.clog
     f.new.frames k.ensures fine

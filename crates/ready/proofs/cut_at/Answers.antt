@@ -7,5 +7,5 @@ pub returns : goal.returns
 returns c =
     let a = c.args in
     let k = c.carry_on-cut in
-    cut-done 4096 a.r a.frames.now a.k a.log.now a.db.now a.clog.now k.result k.new.from.1.1.1.0 k.new.from.1.1.1.1.0
-    k.new.from.1.1.1.1.1.0 k.ensures
+    cut-done 4096 a.r a.frames.now a.k a.log.now a.db.now a.clog.now k.result k.new.log k.new.db
+    k.new.clog k.ensures

@@ -37,4 +37,4 @@ returns c =
     let a = c.args in
     let p = (let a = c.args in let k = c.front_no-no in front-passed 4096 (lent a.h a.rows.now a.resident.now a.touched.now) a.log.now a.db.now a.clog.now a.frames.now k.result k.ensures c.if-no-ne-ACCEPTED.false) in
     let hand = c.hand_pages in
-    uninstall-left 4096 (lent a.h a.rows.now a.resident.now a.touched.now) a.log.now a.db.now a.clog.now a.frames.now ((record { rows = search rules; resident = search rules; touched = search rules })) p.0 p.1 a.out.now hand.new.n.1.0 c.if-out-h.false hand.ensures
+    uninstall-left 4096 (lent a.h a.rows.now a.resident.now a.touched.now) a.log.now a.db.now a.clog.now a.frames.now ((record { rows = search rules; resident = search rules; touched = search rules })) p.0 p.1 a.out.now hand.new.out c.if-out-h.false hand.ensures

@@ -1,5 +1,4 @@
 -- `stores::apply_step` meets its contract: store by store, the call on its file is accepted because there is room. Assumes nothing.
--- the files at entry, and the store in the store as lists
 use Rattle.stores.proofs.StepLaws.{image-room, log-file, log-done, db-file, slot-done, compact-done, truncate-done}
 use Rattle.stores.specs.Plans.{meaning}
 use Rattle.world.specs.Steps as world
@@ -18,86 +17,86 @@ use Rattle.stores.proofs.apply_step.Goals as goal
 pub put_image-requires : goal.put_image-requires
 unfolding meaning
 put_image-requires c =
-    let g = c.step-1.given in
+    let g = c.in-LogImage in
     let fr = c.args.frames.now in
-    image-room 4096 ((files_of c.args.lens c.args.log.now c.args.db.now c.args.clog.now)) ((meaning 4096 c.args.frames.now c.args.step)) c.requires g.0.0 (frame_of 4096 fr g.0.1.0) (ap (meaning 4096 c.args.frames.now) g.1) (length-frame 4096 fr g.0.1.0)
+    image-room 4096 (files_of c.args.lens c.args.log.now c.args.db.now c.args.clog.now) (meaning 4096 c.args.frames.now c.args.step) c.requires g.page (frame_of 4096 fr g.slot) (ap (meaning 4096 c.args.frames.now) g.is) (length-frame 4096 fr g.slot)
 
 pub returns-in-LogImage : goal.returns-in-LogImage
 unfolding meaning
 returns-in-LogImage c =
     let k = c.put_image in
-    let g = c.step-1.given in
-    ap ((files_of k.new.0 c.args.db.now c.args.clog.now)) c.lengths.ensures
-    ∙ log-file 4096 ((files_of c.args.lens c.args.log.now c.args.db.now c.args.clog.now)) ((meaning 4096 c.args.frames.now c.args.step)) (image g.0.0 (frame_of 4096 c.args.frames.now g.0.1.0)) k.result k.new.log (ap (meaning 4096 c.args.frames.now) g.1) k.ensures
+    let g = c.in-LogImage in
+    ap (λ (n : Lens). files_of n k.new.log c.args.db.now c.args.clog.now) c.lengths.ensures
+    ∙ log-file 4096 (files_of c.args.lens c.args.log.now c.args.db.now c.args.clog.now) (meaning 4096 c.args.frames.now c.args.step) (image g.page (frame_of 4096 c.args.frames.now g.slot)) k.result k.new.log (ap (meaning 4096 c.args.frames.now) g.is) k.ensures
 
 pub returns-in-LogBegin : goal.returns-in-LogBegin
 unfolding meaning
 returns-in-LogBegin c =
     let k = c.append_begin in
-    let g = c.step-in-LogBegin-1.given in
-    ap ((files_of k.new.0 c.args.db.now c.args.clog.now)) c.lengths-in-LogBegin.ensures
-    ∙ log-done 4096 ((files_of c.args.lens c.args.log.now c.args.db.now c.args.clog.now)) ((meaning 4096 c.args.frames.now c.args.step)) c.requires (begin g.0.0.0) k.result c.length_of.result k.new.log (ap (meaning 4096 c.args.frames.now) g.1) refl k.ensures c.length_of.ensures
+    let g = c.in-LogBegin in
+    ap (λ (n : Lens). files_of n k.new.log c.args.db.now c.args.clog.now) c.lengths-in-LogBegin.ensures
+    ∙ log-done 4096 (files_of c.args.lens c.args.log.now c.args.db.now c.args.clog.now) (meaning 4096 c.args.frames.now c.args.step) c.requires (begin g.id.0) k.result c.length_of.result k.new.log (ap (meaning 4096 c.args.frames.now) g.is) refl k.ensures c.length_of.ensures
 
 pub returns-in-LogCommit : goal.returns-in-LogCommit
 unfolding meaning
 returns-in-LogCommit c =
     let k = c.append_commit in
-    let g = c.step-in-LogCommit-1.given in
-    ap ((files_of k.new.0 c.args.db.now c.args.clog.now)) c.lengths-in-LogCommit.ensures
-    ∙ log-done 4096 ((files_of c.args.lens c.args.log.now c.args.db.now c.args.clog.now)) ((meaning 4096 c.args.frames.now c.args.step)) c.requires (commit g.0.0.0 g.0.1.0.0) k.result c.length_of-in-LogCommit.result k.new.log (ap (meaning 4096 c.args.frames.now) g.1) refl k.ensures c.length_of-in-LogCommit.ensures
+    let g = c.in-LogCommit in
+    ap (λ (n : Lens). files_of n k.new.log c.args.db.now c.args.clog.now) c.lengths-in-LogCommit.ensures
+    ∙ log-done 4096 (files_of c.args.lens c.args.log.now c.args.db.now c.args.clog.now) (meaning 4096 c.args.frames.now c.args.step) c.requires (commit g.id.0 g.time.0) k.result c.length_of-in-LogCommit.result k.new.log (ap (meaning 4096 c.args.frames.now) g.is) refl k.ensures c.length_of-in-LogCommit.ensures
 
 pub returns-in-LogAbort : goal.returns-in-LogAbort
 unfolding meaning
 returns-in-LogAbort c =
     let k = c.append_abort in
-    let g = c.step-in-LogAbort-1.given in
-    ap ((files_of k.new.0 c.args.db.now c.args.clog.now)) c.lengths-in-LogAbort.ensures
-    ∙ log-done 4096 ((files_of c.args.lens c.args.log.now c.args.db.now c.args.clog.now)) ((meaning 4096 c.args.frames.now c.args.step)) c.requires (abort g.0.0.0) k.result c.length_of-in-LogAbort.result k.new.log (ap (meaning 4096 c.args.frames.now) g.1) refl k.ensures c.length_of-in-LogAbort.ensures
+    let g = c.in-LogAbort in
+    ap (λ (n : Lens). files_of n k.new.log c.args.db.now c.args.clog.now) c.lengths-in-LogAbort.ensures
+    ∙ log-done 4096 (files_of c.args.lens c.args.log.now c.args.db.now c.args.clog.now) (meaning 4096 c.args.frames.now c.args.step) c.requires (abort g.id.0) k.result c.length_of-in-LogAbort.result k.new.log (ap (meaning 4096 c.args.frames.now) g.is) refl k.ensures c.length_of-in-LogAbort.ensures
 
 pub returns-in-LogCheckpoint : goal.returns-in-LogCheckpoint
 unfolding meaning
 returns-in-LogCheckpoint c =
     let k = c.append_checkpoint in
-    let g = c.enum_told-1.given in
-    ap ((files_of k.new.0 c.args.db.now c.args.clog.now)) c.lengths-in-LogCheckpoint.ensures
-    ∙ log-done 4096 ((files_of c.args.lens c.args.log.now c.args.db.now c.args.clog.now)) ((meaning 4096 c.args.frames.now c.args.step)) c.requires (checkpoint) k.result c.length_of-in-LogCheckpoint.result k.new.log (ap (meaning 4096 c.args.frames.now) g.1) refl k.ensures c.length_of-in-LogCheckpoint.ensures
+    let g = c.in-LogCheckpoint in
+    ap (λ (n : Lens). files_of n k.new.log c.args.db.now c.args.clog.now) c.lengths-in-LogCheckpoint.ensures
+    ∙ log-done 4096 (files_of c.args.lens c.args.log.now c.args.db.now c.args.clog.now) (meaning 4096 c.args.frames.now c.args.step) c.requires (checkpoint) k.result c.length_of-in-LogCheckpoint.result k.new.log (ap (meaning 4096 c.args.frames.now) g.is) refl k.ensures c.length_of-in-LogCheckpoint.ensures
 
 pub returns-in-WritePage : goal.returns-in-WritePage
 unfolding meaning
 returns-in-WritePage c =
     let k = c.put_page in
-    let g = c.step-in-WritePage-1.given in
-    ap ((files_of c.args.log.now k.new.0 c.args.clog.now)) c.lengths-in-WritePage.ensures
-    ∙ db-file 4096 ((files_of c.args.lens c.args.log.now c.args.db.now c.args.clog.now)) ((meaning 4096 c.args.frames.now c.args.step)) g.0.0 (frame_of 4096 c.args.frames.now g.0.1.0) k.result k.new.db (ap (meaning 4096 c.args.frames.now) g.1) k.ensures
+    let g = c.in-WritePage in
+    ap (λ (n : Lens). files_of n c.args.log.now k.new.db c.args.clog.now) c.lengths-in-WritePage.ensures
+    ∙ db-file 4096 (files_of c.args.lens c.args.log.now c.args.db.now c.args.clog.now) (meaning 4096 c.args.frames.now c.args.step) g.page (frame_of 4096 c.args.frames.now g.slot) k.result k.new.db (ap (meaning 4096 c.args.frames.now) g.is) k.ensures
 
 pub returns-in-WriteMeta : goal.returns-in-WriteMeta
 unfolding meaning
 returns-in-WriteMeta c =
     let k = c.put_counters in
-    let g = c.step-in-WriteMeta-1.given in
-    let m = g.0.0 in
-    ap ((files_of c.args.log.now k.new.0 c.args.clog.now)) c.lengths-in-WriteMeta.ensures
-    ∙ db-file 4096 ((files_of c.args.lens c.args.log.now c.args.db.now c.args.clog.now)) ((meaning 4096 c.args.frames.now c.args.step)) 0 (meta_page 4096 m.next.0 m.time.0 m.mark.0) k.result k.new.db (ap (meaning 4096 c.args.frames.now) g.1) k.ensures
+    let g = c.in-WriteMeta in
+    let m = g.m in
+    ap (λ (n : Lens). files_of n c.args.log.now k.new.db c.args.clog.now) c.lengths-in-WriteMeta.ensures
+    ∙ db-file 4096 (files_of c.args.lens c.args.log.now c.args.db.now c.args.clog.now) (meaning 4096 c.args.frames.now c.args.step) 0 (meta_page 4096 m.next.0 m.time.0 m.mark.0) k.result k.new.db (ap (meaning 4096 c.args.frames.now) g.is) k.ensures
 
 pub returns-in-SetSlot : goal.returns-in-SetSlot
 unfolding meaning
 returns-in-SetSlot c =
     let k = c.record in
-    let g = c.step-in-SetSlot-1.given in
-    ap ((files_of c.args.log.now c.args.db.now k.new.0)) c.lengths-in-SetSlot.ensures
-    ∙ slot-done 4096 ((files_of c.args.lens c.args.log.now c.args.db.now c.args.clog.now)) ((meaning 4096 c.args.frames.now c.args.step)) c.requires g.0.0.0 g.0.1.0 k.result c.length_of-in-SetSlot.result k.new.clog (ap (meaning 4096 c.args.frames.now) g.1) k.ensures c.length_of-in-SetSlot.ensures
+    let g = c.in-SetSlot in
+    ap (λ (n : Lens). files_of n c.args.log.now c.args.db.now k.new.clog) c.lengths-in-SetSlot.ensures
+    ∙ slot-done 4096 (files_of c.args.lens c.args.log.now c.args.db.now c.args.clog.now) (meaning 4096 c.args.frames.now c.args.step) c.requires g.id.0 g.status k.result c.length_of-in-SetSlot.result k.new.clog (ap (meaning 4096 c.args.frames.now) g.is) k.ensures c.length_of-in-SetSlot.ensures
 
 pub returns-in-Compact : goal.returns-in-Compact
 unfolding meaning
 returns-in-Compact c =
     let k = c.compact in
-    let g = c.step-in-Compact-1.given in
-    ap ((files_of c.args.log.now c.args.db.now k.new.0)) c.lengths-in-Compact.ensures
-    ∙ compact-done 4096 ((files_of c.args.lens c.args.log.now c.args.db.now c.args.clog.now)) ((meaning 4096 c.args.frames.now c.args.step)) c.requires g.0.0.0 k.result c.length_of-in-Compact.result k.new.clog (ap (meaning 4096 c.args.frames.now) g.1) k.ensures c.length_of-in-Compact.ensures
+    let g = c.in-Compact in
+    ap (λ (n : Lens). files_of n c.args.log.now c.args.db.now k.new.clog) c.lengths-in-Compact.ensures
+    ∙ compact-done 4096 (files_of c.args.lens c.args.log.now c.args.db.now c.args.clog.now) (meaning 4096 c.args.frames.now c.args.step) c.requires g.below.0 k.result c.length_of-in-Compact.result k.new.clog (ap (meaning 4096 c.args.frames.now) g.is) k.ensures c.length_of-in-Compact.ensures
 
 pub returns-in-Truncate : goal.returns-in-Truncate
 unfolding meaning
 returns-in-Truncate c =
     let k = c.truncate in
-    ap ((files_of k.new.0 c.args.db.now c.args.clog.now)) c.lengths-in-Truncate.ensures
-    ∙ truncate-done 4096 ((files_of c.args.lens c.args.log.now c.args.db.now c.args.clog.now)) ((meaning 4096 c.args.frames.now c.args.step)) c.requires k.result c.length_of-in-Truncate.result k.new.log (ap (meaning 4096 c.args.frames.now) c.in-Truncate.is) k.ensures c.length_of-in-Truncate.ensures
+    ap (λ (n : Lens). files_of n k.new.log c.args.db.now c.args.clog.now) c.lengths-in-Truncate.ensures
+    ∙ truncate-done 4096 (files_of c.args.lens c.args.log.now c.args.db.now c.args.clog.now) (meaning 4096 c.args.frames.now c.args.step) c.requires k.result c.length_of-in-Truncate.result k.new.log (ap (meaning 4096 c.args.frames.now) c.in-Truncate.is) k.ensures c.length_of-in-Truncate.ensures

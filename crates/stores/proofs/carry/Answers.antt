@@ -16,22 +16,26 @@ loop-i-init c = (refl, refl, refl, c.requires, refl)
 
 pub apply_step-at-requires : goal.apply_step-at-requires
 apply_step-at-requires c =
-    let a = ((⟦c.before.before.before.before.before.before.before⟧)).args in
+    let a = c.args in
     let l = c.loop-i in
     let t = c.step_at-s in
-    carry-room 4096 a.frames.now a.plan l.i a.k ((files_of c.loop-i.at c.loop-i.log c.loop-i.db c.loop-i.clog)) t.result (((omega (arith, c.smaller-stop.ensures, c.count-all.ensures, c.loop-i-test.true), omega (arith, c.smaller-stop.ensures, c.loop-i-test.true)))).0 t.ensures l.invariant.3
+    let here : c.loop-i.i < length (steps_of c.args.plan) = omega (arith, c.smaller-stop.ensures, c.count-all.ensures, c.loop-i-test.true) in
+    let asked : c.loop-i.i < c.args.k = omega (arith, c.smaller-stop.ensures, c.loop-i-test.true) in
+    carry-room 4096 a.frames.now a.plan l.i a.k (files_of c.loop-i.at c.loop-i.log c.loop-i.db c.loop-i.clog) t.result here t.ensures l.invariant.3
 
 pub loop-i-preserved : goal.loop-i-preserved
 loop-i-preserved c =
     let k = c.apply_step-at in
     let t = c.step_at-s in
-    let a = ((⟦c.before.before.before.before.before.before.before⟧)).args in
+    let here : c.loop-i.i < length (steps_of c.args.plan) = omega (arith, c.smaller-stop.ensures, c.count-all.ensures, c.loop-i-test.true) in
+    let asked : c.loop-i.i < c.args.k = omega (arith, c.smaller-stop.ensures, c.loop-i-test.true) in
+    let a = c.args in
     let l = c.loop-i in (
-      k.auto.lens.1.0 ∙ l.invariant.0,
-      k.auto.lens.1.1.0 ∙ l.invariant.1,
-      k.auto.lens.1.1.1.0 ∙ l.invariant.2,
-      carry-next 4096 a.frames.now a.plan l.i a.k ((files_of c.loop-i.at c.loop-i.log c.loop-i.db c.loop-i.clog)) t.result (((omega (arith, c.smaller-stop.ensures, c.count-all.ensures, c.loop-i-test.true), omega (arith, c.smaller-stop.ensures, c.loop-i-test.true)))).0 t.ensures (files_of k.result k.new.lens.1.0 k.new.lens.1.1.0 k.new.lens.1.1.1.0) l.invariant.3 k.ensures,
-      carry-turn 4096 a.frames.now a.plan l.i a.k ((files_of c.loop-i.at c.loop-i.log c.loop-i.db c.loop-i.clog)) t.result (((omega (arith, c.smaller-stop.ensures, c.count-all.ensures, c.loop-i-test.true), omega (arith, c.smaller-stop.ensures, c.loop-i-test.true)))).0 t.ensures (files_of k.result k.new.lens.1.0 k.new.lens.1.1.0 k.new.lens.1.1.1.0) (((omega (arith, c.smaller-stop.ensures, c.count-all.ensures, c.loop-i-test.true), omega (arith, c.smaller-stop.ensures, c.loop-i-test.true)))).1 k.ensures ∙ l.invariant.4,
+      k.auto.log ∙ l.invariant.0,
+      k.auto.db ∙ l.invariant.1,
+      k.auto.clog ∙ l.invariant.2,
+      carry-next 4096 a.frames.now a.plan l.i a.k (files_of c.loop-i.at c.loop-i.log c.loop-i.db c.loop-i.clog) t.result here t.ensures (files_of k.result k.new.log k.new.db k.new.clog) l.invariant.3 k.ensures,
+      carry-turn 4096 a.frames.now a.plan l.i a.k (files_of c.loop-i.at c.loop-i.log c.loop-i.db c.loop-i.clog) t.result here t.ensures (files_of k.result k.new.log k.new.db k.new.clog) asked k.ensures ∙ l.invariant.4,
     )
 
 pub shape_of-log : goal.shape_of-log
@@ -46,5 +50,5 @@ shape_of-clog c = c.loop-i.invariant.2
 pub returns : goal.returns
 returns c =
     let l = c.loop-i in
-    let a = ((⟦c.before.before.before.before.before.before.before⟧)).args in
-    sym (carry-end 4096 a.frames.now a.plan l.i a.k ((files_of c.loop-i.at c.loop-i.log c.loop-i.db c.loop-i.clog)) (omega (arith, c.smaller-stop.ensures, c.count-all.ensures, c.loop-i-test.false))) ∙ l.invariant.4
+    let a = c.args in
+    sym (carry-end 4096 a.frames.now a.plan l.i a.k (files_of c.loop-i.at c.loop-i.log c.loop-i.db c.loop-i.clog) (omega (arith, c.smaller-stop.ensures, c.count-all.ensures, c.loop-i-test.false))) ∙ l.invariant.4

@@ -24,4 +24,4 @@ carry-at-requires c =
 pub returns : goal.returns
 returns c =
     let k = c.carry-at in
-    carried-done 4096 ((drop c.args.from (meant 4096 c.args.frames.now c.args.plan))) (c.args.k - c.args.from) ((files_of c.args.lens c.args.log.now c.args.db.now c.args.clog.now)) c.number_for-number.result ((c.number_for-number.ensures ∙ number_is 4096 (lit≤ tt) c.args.frames.now c.args.plan c.args.from ((files_of c.args.lens c.args.log.now c.args.db.now c.args.clog.now)))) (files_of k.result k.new.from.1.1.1.0 k.new.from.1.1.1.1.0 k.new.from.1.1.1.1.1.0) c.if-number-ne-ACCEPTED.false k.ensures
+    carried-done 4096 ((drop c.args.from (meant 4096 c.args.frames.now c.args.plan))) (c.args.k - c.args.from) ((files_of c.args.lens c.args.log.now c.args.db.now c.args.clog.now)) c.number_for-number.result ((c.number_for-number.ensures ∙ number_is 4096 (lit≤ tt) c.args.frames.now c.args.plan c.args.from ((files_of c.args.lens c.args.log.now c.args.db.now c.args.clog.now)))) (files_of k.result k.new.log k.new.db k.new.clog) c.if-number-ne-ACCEPTED.false k.ensures

@@ -20,13 +20,16 @@ pub loop-i-init : goal.loop-i-init
 loop-i-init c = (omega arith, omega arith, omega arith, omega arith)
 
 pub overflow_add-log : goal.overflow_add-log
-overflow_add-log c = (record { fits = omega (arith, (omega (arith, ap (λ (n : Needs). n.log) c.cost-w.ensures, cost-most 4096 c.step_at-s.result, c.loop-i.invariant.0)), most-steps c.args.plan, (omega (arith, c.count-all.ensures, c.loop-i-test.true))) })
+overflow_add-log c =
+    let more : c.loop-i.log + c.cost-w.result.log ≤ (c.loop-i.i + 1) * 4113 = omega (arith, ap (λ (n : Needs). n.log) c.cost-w.ensures, cost-most 4096 c.step_at-s.result, c.loop-i.invariant.0) in
+    let below : c.loop-i.i < length (steps_of c.args.plan) = omega (arith, c.count-all.ensures, c.loop-i-test.true) in
+    record { fits = omega (arith, more, most-steps c.args.plan, below) }
 
 pub loop-i-preserved : goal.loop-i-preserved
 loop-i-preserved c =
     let l = c.loop-i in
     let p = c.args.plan in
-    let b = (omega (arith, c.count-all.ensures, c.loop-i-test.true)) in
+    let b : c.loop-i.i < length (steps_of c.args.plan) = omega (arith, c.count-all.ensures, c.loop-i-test.true) in
     let s = c.step_at-s in (
       (omega (arith, ap (λ (n : Needs). n.log) c.cost-w.ensures, cost-most 4096 c.step_at-s.result, c.loop-i.invariant.0)),
       log-turn 4096 (lit≤ tt) p l.i s.result c.cost-w.result b s.ensures c.cost-w.ensures l.log ∙ l.invariant.1,
