@@ -1,5 +1,5 @@
 // The call that hands a store's table out into a lent slice of entries. It makes the tests of 1 and 14 that every call makes first, then 13, and changes no store and
-// no buffer. The borrow checker covers no function with a `&mut [Entry]`, so it is a walk by hand.
+// no buffer.
 ghost use Rattle.std.specs.Prelude.{◌≡◌};
 ghost use Rattle.hands.specs.Handing.{handed_as};
 ghost use Rattle.handing.specs.Tables.{table_handed};

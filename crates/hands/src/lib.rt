@@ -1,5 +1,5 @@
-// The status table, handed out into a lent slice of entries. The borrow checker covers no function with a `&mut [Entry]`, so `hand_after` is a walk by hand,
-// of one loop, and `hand_out` one more; what is done of the table is done by covered functions. An entry is its id and its status, a Committed one with its time.
+// The status table, handed out into a lent slice of entries: how many go is told first, then they are laid, one a turn. An entry is its id and its status, a
+// Committed one with its time.
 ghost use Rattle.std.specs.Prelude.{◌≡◌, ◌<◌, get_or};
 ghost use Rattle.table.specs.Entries.{blank};
 ghost use Rattle.hands.specs.Handing.{hand_no, handed_as, handed};
