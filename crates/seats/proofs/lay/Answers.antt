@@ -15,7 +15,7 @@ pub bounds-pages-i : goal.bounds-pages-i
 bounds-pages-i c = omega (arith, c.held-k.ensures)
 
 pub overflow_cast-touched : goal.overflow_cast-touched
-overflow_cast-touched c = search (rules, (c.type_inv.touched c.loop-i.i).fits)
+overflow_cast-touched c = search (rules, (c.type_inv.pages c.loop-i.i).fits)
 
 pub loop-i-preserved : goal.loop-i-preserved
 loop-i-preserved c =

@@ -2,11 +2,11 @@
 use borrow.Author.Rules.{rules}
 use Rattle.seats.proofs.Laws.{mark-there, mark-place, mark-none, mark-next}
 use mathlib.Core.Path.{◌≡◌}
-use mathlib.Core.Logic.{⊎_elim}
 use Prim.Native.Nat.{◌<◌}
 use native.Mathlib.Omega.{arith}
 use lib.ListN.{length, get_or}
 use Rattle.seats.proofs.mark.Goals as goal
+use Rattle.seats.proofs.mark.Goals.{then-p-m+else-touched-p, else-p-m}
 
 pub returns-then-touched-p : goal.returns-then-touched-p
 returns-then-touched-p c =
@@ -22,7 +22,7 @@ returns-then-m-ge-LIMIT c =
     let h = c.held-m in
     let a = c.args in
     let len : length a.touched.now ≡ 64 = search rules in
-    mark-none a.touched.now a.n h.result a.page w.result len h.ensures w.ensures ((⊎_elim (λ w. w.2.left ) (λ w. let g = w.left in omega arith) c.if-p-m.branch)) c.if-m-ge-LIMIT.true
+    mark-none a.touched.now a.n h.result a.page w.result len h.ensures w.ensures (λ h q. elim c.if-p-m.branch [ then-p-m+else-touched-p w ↦ w.if-touched-p.false q | else-p-m w ↦ omega arith ]) c.if-m-ge-LIMIT.true
 
 pub shift-requires : goal.shift-requires
 shift-requires c =
@@ -38,4 +38,4 @@ returns c =
     let h = c.held-m in
     let a = c.args in
     let len : length a.touched.now ≡ 64 = search rules in
-    mark-next a.touched.now a.n h.result a.page w.result len h.ensures w.ensures ((⊎_elim (λ w. w.2.left ) (λ w. let g = w.left in omega arith) c.if-p-m.branch)) _ c.if-m-ge-LIMIT.false c.shift.ensures
+    mark-next a.touched.now a.n h.result a.page w.result len h.ensures w.ensures (λ h q. elim c.if-p-m.branch [ then-p-m+else-touched-p w ↦ w.if-touched-p.false q | else-p-m w ↦ omega arith ]) _ c.if-m-ge-LIMIT.false c.shift.ensures

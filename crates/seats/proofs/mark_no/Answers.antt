@@ -3,11 +3,11 @@ use borrow.Author.Rules.{rules}
 use Rattle.seats.proofs.Laws.{mark-there, mark-none, mark-next}
 use Rattle.seats.specs.Seats.{mark_kept}
 use mathlib.Core.Path.{◌≡◌, refl, ap}
-use mathlib.Core.Logic.{⊎_elim}
 use Prim.Native.Nat.{◌<◌}
 use native.Mathlib.Omega.{arith}
 use lib.ListN.{length, get_or}
 use Rattle.seats.proofs.mark_no.Goals as goal
+use Rattle.seats.proofs.mark_no.Goals.{then-p-m+else-touched-p, else-p-m}
 
 pub returns-then-touched-p : goal.returns-then-touched-p
 returns-then-touched-p c =
@@ -23,7 +23,7 @@ returns-then-m-ge-LIMIT c =
     let h = c.held-m in
     let a = c.args in
     let len : length a.touched.now ≡ 64 = search rules in
-    ap mark_kept (mark-none a.touched.now a.n h.result a.page w.result len h.ensures w.ensures ((⊎_elim (λ w. w.2.left ) (λ w. let g = w.left in omega arith) c.if-p-m.branch)) c.if-m-ge-LIMIT.true)
+    ap mark_kept (mark-none a.touched.now a.n h.result a.page w.result len h.ensures w.ensures (λ h q. elim c.if-p-m.branch [ then-p-m+else-touched-p w ↦ w.if-touched-p.false q | else-p-m w ↦ omega arith ]) c.if-m-ge-LIMIT.true)
 
 pub returns : goal.returns
 returns c =
@@ -31,4 +31,4 @@ returns c =
     let h = c.held-m in
     let a = c.args in
     let len : length a.touched.now ≡ 64 = search rules in
-    ap mark_kept (mark-next a.touched.now a.n h.result a.page w.result len h.ensures w.ensures ((⊎_elim (λ w. w.2.left ) (λ w. let g = w.left in omega arith) c.if-p-m.branch)) _ c.if-m-ge-LIMIT.false refl)
+    ap mark_kept (mark-next a.touched.now a.n h.result a.page w.result len h.ensures w.ensures (λ h q. elim c.if-p-m.branch [ then-p-m+else-touched-p w ↦ w.if-touched-p.false q | else-p-m w ↦ omega arith ]) _ c.if-m-ge-LIMIT.false refl)
