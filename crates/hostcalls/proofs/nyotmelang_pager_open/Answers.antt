@@ -10,6 +10,6 @@ pub returns : goal.returns
 returns c =
     let a = c.args in
     stood-open
-    (λ h. opened_lent 4096 (record { log = a.log-len; db = a.db-len; clog = a.clog-len }) (lent h a.rows.now a.resident.now a.touched.now) a.log.now a.db.now a.clog.now a.frames.now)
+    (λ h. opened_lent 4096 (record { log = a.log_len; db = a.db_len; clog = a.clog_len }) (lent h a.rows.now a.resident.now a.touched.now) a.log.now a.db.now a.clog.now a.frames.now)
     c.head_in-h.result c.open-r.result c.open-r.result.verdict c.open-r.result.head _ _ _ _ _ _ _ _ _ _ _ c.head_in-h.ensures refl refl c.put_head.ensures c.number_of.ensures c.told_of.ensures
     c.open-r.ensures
