@@ -22,15 +22,15 @@ module _ {A : Type 0} where
   length-tabulate zero g = refl
   length-tabulate (suc n) g = ap suc (length-tabulate n (λ i. g (suc i)))
 
-  pub get_d_tabulate : (n : ℕ) (g : ℕ → A) (i : ℕ) (d : A) → i < n → get_or (tabulate n g) i d ≡ g i
+  pub get_or-tabulate : (n : ℕ) (g : ℕ → A) (i : ℕ) (d : A) → i < n → get_or (tabulate n g) i d ≡ g i
   unfolding tabulate
-  get_d_tabulate zero g i d h = absurd (not-suc-le-zero h)
-  get_d_tabulate (suc n) g zero d h = refl
-  get_d_tabulate (suc n) g (suc i) d h = get_d_tabulate n (λ j. g (suc j)) i d (le_of_suc-le-suc h)
+  get_or-tabulate zero g i d h = absurd (not-suc-le-zero h)
+  get_or-tabulate (suc n) g zero d h = refl
+  get_or-tabulate (suc n) g (suc i) d h = get_or-tabulate n (λ j. g (suc j)) i d (le_of_suc-le-suc h)
 
   -- a list that starts with a table: in the table, and past it
   pub in_table : (n : ℕ) (g : ℕ → A) (ys : List A) (i : ℕ) (d : A) → i < n → get_or (tabulate n g ++ ys) i d ≡ g i
-  in_table n g ys i d h = get_or-append (tabulate n g) ys d i (rw length-tabulate h) ∙ get_d_tabulate n g i d h
+  in_table n g ys i d h = get_or-append (tabulate n g) ys d i (rw length-tabulate h) ∙ get_or-tabulate n g i d h
 
   pub past-table : (n : ℕ) (g : ℕ → A) (ys : List A) (i j : ℕ) (d : A) → i ≡ n + j → get_or (tabulate n g ++ ys) i d ≡ get_or ys j d
   past-table n g ys i j d e =
@@ -120,7 +120,7 @@ module _ (p : Plan) (n : ℕ) where
 
   pub flush-page : (i j : ℕ) → i ≡ n + j → j < n → get_or (flush_steps n p) i Truncate ≡ page_step p j
   unfolding flush_steps
-  flush-page i j e h = past-table n (image_step p) (tabulate n (page_step p)) i j Truncate e ∙ get_d_tabulate n (page_step p) j Truncate h
+  flush-page i j e h = past-table n (image_step p) (tabulate n (page_step p)) i j Truncate e ∙ get_or-tabulate n (page_step p) j Truncate h
 
   pub flush-past : (i : ℕ) → 2 * n ≤ i → get_or (flush_steps n p) i Truncate ≡ Truncate
   flush-past i h = get_or-eq_default (flush_steps n p) Truncate (rw length-flush h)
