@@ -1,30 +1,30 @@
 // Runs the pager's calls at each limit and past it, and writes for each case the number that was answered. Every case has a store and buffers of its own: which
 // lengths, pages, entries and frames the store has is what a limit is about, and the bytes of the buffers are of no account. The last cases meet several refusals
 // at once, and are freed of one after the other.
+#![tactic(auto)]
+
 use fields::{CommitTime, TransactionId};
 use form::{Held, Store};
 use frames::{Frames, Touched, Transaction};
-use libc::STDOUT_FILENO;
+use std::io;
 use table::{Status, Table};
 use world::{Lens, Slot};
 
-fn word(text: &[u8]) {
-    io::write_all(STDOUT_FILENO, text);
+fn word(rt: &impl Print, text: &[u8]) -> io::Result<()> {
+    rt.write_all(text)
 }
 
-fn line(name: &[u8], n: u8) {
-    word(name);
-    word(b" ");
-    io::print_decimal(STDOUT_FILENO, n as u64);
-    word(b"\n");
+fn line(rt: &impl Print, name: &[u8], n: u8) -> io::Result<()> {
+    word(rt, name)?;
+    println!(rt; " {n}")
 }
 
 // At a limit, and past it.
-fn pair(name: &[u8], at: u8, past: u8) {
-    word(name);
-    line(b" at", at);
-    word(name);
-    line(b" past", past);
+fn pair(rt: &impl Print, name: &[u8], at: u8, past: u8) -> io::Result<()> {
+    word(rt, name)?;
+    line(rt, b" at", at)?;
+    word(rt, name)?;
+    line(rt, b" past", past)
 }
 
 // ---- stores
@@ -381,230 +381,294 @@ fn advance_at(a: u32, b: u32, count: usize) -> u8 {
 // ---- cases
 
 // 1: a length over its buffer, a frame buffer under a page.
-fn lengths() {
-    pair(b"log length 4127", id_at(4127), id_at(4128));
-    pair(b"database length 4096", page_at(4096, 0), page_at(4097, 0));
-    pair(b"clog length 73", uninstall_at(73), uninstall_at(74));
-    pair(b"frame buffer of 4096", id_at(8), id_short());
+fn lengths(rt: &impl Print) -> io::Result<()> {
+    pair(rt, b"log length 4127", id_at(4127), id_at(4128))?;
+    pair(
+        rt,
+        b"database length 4096",
+        page_at(4096, 0),
+        page_at(4097, 0),
+    )?;
+    pair(rt, b"clog length 73", uninstall_at(73), uninstall_at(74))?;
+    pair(rt, b"frame buffer of 4096", id_at(8), id_short())
 }
 
 // 14: a length under the header; the table, the pages of the transaction that is in or handed in, and the frames, each in form and not.
-fn forms() {
-    pair(b"log length 8", id_at(8), id_at(7));
-    pair(b"clog length 8", uninstall_at(8), uninstall_at(7));
-    pair(b"ids ascending", begin_at(8, 1, 1, 5), begin_at(8, 1, 2, 5));
+fn forms(rt: &impl Print) -> io::Result<()> {
+    pair(rt, b"log length 8", id_at(8), id_at(7))?;
+    pair(rt, b"clog length 8", uninstall_at(8), uninstall_at(7))?;
     pair(
+        rt,
+        b"ids ascending",
+        begin_at(8, 1, 1, 5),
+        begin_at(8, 1, 2, 5),
+    )?;
+    pair(
+        rt,
         b"256 entries",
         begin_at(8, 256, 256, 5),
         begin_at(8, 256, 257, 5),
-    );
+    )?;
     pair(
+        rt,
         b"touched pages ascending",
         flush_at(8, 8, 1, 1, 5),
         flush_at(8, 8, 1, 2, 5),
-    );
+    )?;
     pair(
+        rt,
         b"64 touched pages",
         flush_at(8, 8, 64, 64, 5),
         flush_at(8, 8, 64, 65, 5),
-    );
+    )
 }
 
-fn page_lists() {
+fn page_lists(rt: &impl Print) -> io::Result<()> {
     pair(
+        rt,
         b"pages handed in ascending",
         install_at(3, 4, 2),
         install_at(3, 3, 2),
-    );
+    )?;
     pair(
+        rt,
         b"page handed in 4294967294",
         install_at(4294967294, 0, 1),
         install_at(4294967295, 0, 1),
-    );
-    pair(b"frames apart", read_at(3, 4, 2, 3), read_at(3, 3, 2, 3));
+    )?;
     pair(
+        rt,
+        b"frames apart",
+        read_at(3, 4, 2, 3),
+        read_at(3, 3, 2, 3),
+    )?;
+    pair(
+        rt,
         b"frames for two pages",
         write_at(3, 4, 2, 3),
         write_at(3, 4, 3, 3),
-    );
+    )?;
     pair(
+        rt,
         b"frame of 4294967294",
         advance_at(4294967294, 0, 1),
         advance_at(4294967295, 0, 1),
-    );
+    )
 }
 
 // 9, then 10.
-fn page_numbers() {
+fn page_numbers(rt: &impl Print) -> io::Result<()> {
     pair(
+        rt,
         b"install with none in",
         install_at(3, 4, 2),
         install_over(3, 4, 2),
-    );
+    )?;
     pair(
+        rt,
         b"read 4294967294",
         read_at(0, 0, 0, 4294967294),
         read_at(0, 0, 0, 4294967295),
-    );
+    )?;
     pair(
+        rt,
         b"write 4294967294",
         write_at(0, 0, 0, 4294967294),
         write_at(0, 0, 0, 4294967295),
-    );
+    )?;
     pair(
+        rt,
         b"flush 4294967294",
         flush_alone(4294967294),
         flush_alone(4294967295),
-    );
+    )?;
     pair(
+        rt,
         b"allocate page 4294967294",
         page_at(0, 4294967294),
         page_at(0, 4294967295),
-    );
+    )
 }
 
 // 11; 4, where a begin takes 9 bytes of log and a commit of one page 4,119; 5.
-fn stores_room() {
+fn stores_room(rt: &impl Print) -> io::Result<()> {
     pair(
+        rt,
         b"flush the 64th page",
         flush_at(8, 8, 63, 63, 63),
         flush_at(8, 8, 64, 64, 64),
-    );
+    )?;
     pair(
+        rt,
         b"begin with log room",
         begin_at(4118, 0, 0, 5),
         begin_at(4119, 0, 0, 5),
-    );
+    )?;
     pair(
+        rt,
         b"commit with log room",
         commit_at(8, 5, 1, 0),
         commit_at(9, 5, 1, 0),
-    );
+    )?;
     pair(
+        rt,
         b"commit with database room",
         commit_at(8, 5, 0, 0),
         commit_short(8, 5, 0),
-    );
+    )
 }
 
 // 10, in a list too, also where there would be nothing to do; 4, where a rollback of no data page takes 9 bytes of log and one of one page 4,111; 5.
-fn rollbacks() {
+fn rollbacks(rt: &impl Print) -> io::Result<()> {
     pair(
+        rt,
         b"list with 4294967294",
         rollback_at(8, 5, 0, 0, 4294967294),
         rollback_at(8, 5, 0, 0, 4294967295),
-    );
+    )?;
     pair(
+        rt,
         b"list with 4294967294, no transaction",
         rollback_alone(4294967294),
         rollback_alone(4294967295),
-    );
+    )?;
     pair(
+        rt,
         b"rollback of no page with log room",
         rollback_at(4118, 5, 0, 0, 7),
         rollback_at(4119, 5, 0, 0, 7),
-    );
+    )?;
     pair(
+        rt,
         b"rollback of a page with log room",
         rollback_at(16, 5, 1, 0, 7),
         rollback_at(17, 5, 1, 0, 7),
-    );
+    )?;
     pair(
+        rt,
         b"rollback with database room",
         rollback_at(8, 5, 0, 0, 7),
         rollback_short(8, 5, 0, 7),
-    );
+    )
 }
 
 // 6, 7, 8.
-fn memory_room() {
+fn memory_room(rt: &impl Print) -> io::Result<()> {
     pair(
+        rt,
         b"begin with clog room",
         begin_at(8, 0, 0, 259),
         begin_at(8, 0, 0, 260),
-    );
+    )?;
     pair(
+        rt,
         b"begin the 256th id",
         begin_at(8, 255, 255, 255),
         begin_at(8, 256, 256, 256),
-    );
+    )?;
     pair(
+        rt,
         b"read with a frame",
         read_at(3, 0, 1, 4),
         read_at(3, 4, 2, 5),
-    );
+    )?;
     pair(
+        rt,
         b"advance with a frame",
         advance_at(3, 0, 1),
         advance_at(3, 4, 2),
-    );
+    )
 }
 
 // The order 1, 14, 9, 10, 11.
-fn first_numbers() {
+fn first_numbers(rt: &impl Print) -> io::Result<()> {
     line(
+        rt,
         b"flush that meets 1, 14, 10, 11",
         flush_at(4128, 7, 64, 64, 4294967295),
-    );
+    )?;
     line(
+        rt,
         b"flush that meets 14, 10, 11",
         flush_at(8, 7, 64, 64, 4294967295),
-    );
+    )?;
     line(
+        rt,
         b"flush that meets 10, 11",
         flush_at(8, 8, 64, 64, 4294967295),
-    );
-    line(b"flush that meets 11", flush_at(8, 8, 64, 64, 64));
-    line(b"install that meets 14, 9", install_over(3, 3, 2));
-    line(b"install that meets 9", install_over(3, 4, 2));
+    )?;
+    line(rt, b"flush that meets 11", flush_at(8, 8, 64, 64, 64))?;
+    line(rt, b"install that meets 14, 9", install_over(3, 3, 2))?;
+    line(rt, b"install that meets 9", install_over(3, 4, 2))
 }
 
 // The order 4, 5, 6, 7, 8, where a commit of no page takes 18 bytes of log.
-fn last_numbers() {
-    line(b"begin that meets 4, 6", begin_at(4119, 0, 0, 260));
+fn last_numbers(rt: &impl Print) -> io::Result<()> {
+    line(rt, b"begin that meets 4, 6", begin_at(4119, 0, 0, 260))?;
     line(
+        rt,
         b"commit that meets 4, 5, 6, 7, 8",
         commit_short(4110, 260, 4),
-    );
-    line(b"commit that meets 5, 6, 7, 8", commit_short(4109, 260, 4));
-    line(b"commit that meets 6, 7, 8", commit_at(4109, 260, 0, 4));
-    line(b"commit that meets 7, 8", commit_at(4109, 259, 0, 4));
-    line(b"commit that meets 8", commit_at(4109, 255, 0, 4));
-    line(b"commit that meets none", commit_at(4109, 255, 0, 0));
+    )?;
+    line(
+        rt,
+        b"commit that meets 5, 6, 7, 8",
+        commit_short(4109, 260, 4),
+    )?;
+    line(rt, b"commit that meets 6, 7, 8", commit_at(4109, 260, 0, 4))?;
+    line(rt, b"commit that meets 7, 8", commit_at(4109, 259, 0, 4))?;
+    line(rt, b"commit that meets 8", commit_at(4109, 255, 0, 4))?;
+    line(rt, b"commit that meets none", commit_at(4109, 255, 0, 0))
 }
 
 // The order 10, 4, 5, 6, 7, 8.
-fn rollback_numbers() {
+fn rollback_numbers(rt: &impl Print) -> io::Result<()> {
     line(
+        rt,
         b"rollback that meets 10, 4, 5, 6, 7, 8",
         rollback_short(4119, 260, 4, 4294967295),
-    );
+    )?;
     line(
+        rt,
         b"rollback that meets 4, 5, 6, 7, 8",
         rollback_short(4119, 260, 4, 7),
-    );
+    )?;
     line(
+        rt,
         b"rollback that meets 5, 6, 7, 8",
         rollback_short(4118, 260, 4, 7),
-    );
+    )?;
     line(
+        rt,
         b"rollback that meets 6, 7, 8",
         rollback_at(4118, 260, 0, 4, 7),
-    );
-    line(b"rollback that meets 7, 8", rollback_at(4118, 259, 0, 4, 7));
-    line(b"rollback that meets 8", rollback_at(4118, 255, 0, 4, 7));
-    line(b"rollback that meets none", rollback_at(4118, 255, 0, 0, 7));
+    )?;
+    line(
+        rt,
+        b"rollback that meets 7, 8",
+        rollback_at(4118, 259, 0, 4, 7),
+    )?;
+    line(
+        rt,
+        b"rollback that meets 8",
+        rollback_at(4118, 255, 0, 4, 7),
+    )?;
+    line(
+        rt,
+        b"rollback that meets none",
+        rollback_at(4118, 255, 0, 0, 7),
+    )
 }
 
-fn main() {
-    lengths();
-    forms();
-    page_lists();
-    page_numbers();
-    stores_room();
-    rollbacks();
-    memory_room();
-    first_numbers();
-    last_numbers();
-    rollback_numbers();
+fn main(rt: HostRuntime) -> io::Result<()> {
+    lengths(&rt)?;
+    forms(&rt)?;
+    page_lists(&rt)?;
+    page_numbers(&rt)?;
+    stores_room(&rt)?;
+    rollbacks(&rt)?;
+    memory_room(&rt)?;
+    first_numbers(&rt)?;
+    last_numbers(&rt)?;
+    rollback_numbers(&rt)
 }

@@ -1,10 +1,17 @@
 // Opens the store in the current folder and writes what it holds: the answer, page count, next id, next commit time, mark, each entry by id (the time after a
 // C), and the lengths that log and clog are left with. The files are `store.db`, `store.db.wal` and `store.db.clog`; a missing one counts as empty, one that is
 // longer than its buffer gives 1. No file is written. A refused opening writes the first line only.
+#![tactic(auto)]
+
+ghost use Rattle.std.specs.Prelude.{◌≤◌, length};
+
 use form::Store;
-use libc::STDOUT_FILENO;
 use opening::{Opened, Verdict};
 use quiet::EntryAt;
+use std::fs::File;
+use std::io;
+use std::io::{ErrorKind, Read};
+use std::rt::Files;
 use table::Status;
 use world::Lens;
 
@@ -15,53 +22,73 @@ struct Fetched {
     len: usize,
 }
 
-fn word(text: &[u8]) {
-    io::write_all(STDOUT_FILENO, text);
+fn word(rt: &impl Print, text: &[u8]) -> io::Result<()> {
+    rt.write_all(text)
 }
 
-fn line(name: &[u8], n: u64) {
-    word(name);
-    word(b" ");
-    io::print_decimal(STDOUT_FILENO, n);
-    word(b"\n");
+fn line(rt: &impl Print, name: &[u8], n: u64) -> io::Result<()> {
+    word(rt, name)?;
+    println!(rt; " {n}")
 }
 
 // ---- files
 
-// One byte more is asked for: where a file goes on it is longer than its buffer, and where it cannot be read that shows at last.
-fn after(file: i32, got: usize) -> Fetched {
-    let mut more = [0u8; 1];
-    let n = libc::read(file, &mut more);
-    libc::close(file);
-    if n < 0 {
-        return Fetched {
-            readable: false,
-            len: 0,
-        };
+// Reads until the buffer is full, the file ends or a read fails, and gives how many bytes are at the buffer's start.
+fn read_full(file: &mut impl Read, buf: &mut [u8]) -> usize
+    ensures { result ≤ length buf.new }
+{
+    let mut done = 0;
+    while done < buf.len() {
+        let n = read_some(file, &mut buf[done..]);
+        if n == 0 {
+            break;
+        }
+        done += n;
     }
-    if n == 0 {
-        return Fetched {
+    done
+}
+
+// A read that fails gives nothing, as at the end.
+fn read_some(file: &mut impl Read, buf: &mut [u8]) -> usize
+    ensures { result ≤ length buf.new }
+{
+    match file.read(buf) {
+        Ok(n) => n,
+        Err(_) => 0,
+    }
+}
+
+// One byte more is asked for: where a file goes on it is longer than its buffer, and where it cannot be read that shows at last.
+fn after(file: &mut impl Read, got: usize) -> Fetched {
+    let mut more = [0u8; 1];
+    match file.read(&mut more) {
+        Ok(0) => Fetched {
             readable: true,
             len: got,
-        };
-    }
-    Fetched {
-        readable: true,
-        len: 65536,
+        },
+        Ok(_) => Fetched {
+            readable: true,
+            len: 65536,
+        },
+        Err(_) => Fetched {
+            readable: false,
+            len: 0,
+        },
     }
 }
 
 // The file's bytes into the buffer. A missing file is an empty one; any other that cannot be opened is not.
-fn fetch(name: &[u8], buf: &mut [u8]) -> Fetched {
-    let file = os::open_read(name);
-    if file < 0 {
-        return Fetched {
-            readable: os::errno() == libc::ENOENT,
+fn fetch(rt: &impl Files, name: &str, buf: &mut [u8]) -> Fetched {
+    match File::open(rt, name) {
+        Ok(mut file) => {
+            let got = read_full(&mut file, buf);
+            after(&mut file, got)
+        }
+        Err(e) => Fetched {
+            readable: e.kind() == ErrorKind::NotFound,
             len: 0,
-        };
+        },
     }
-    let got = io::read_full(file, buf);
-    after(file, got)
 }
 
 // ---- what the store holds
@@ -76,94 +103,102 @@ fn number_of(v: Verdict) -> u8 {
 }
 
 // After an opening no entry is Active.
-fn status(s: Status) {
+fn status(rt: &impl Print, s: Status) -> io::Result<()> {
     match s {
-        Status::Active => word(b" active\n"),
-        Status::Committed(time) => line(b" C", time.0),
-        Status::Aborted => word(b" A\n"),
+        Status::Active => word(rt, b" active\n"),
+        Status::Committed(time) => line(rt, b" C", time.0),
+        Status::Aborted => word(rt, b" A\n"),
     }
 }
 
-fn entry(e: EntryAt) {
+fn entry(rt: &impl Print, e: EntryAt) -> io::Result<()> {
     match e {
         EntryAt::Is(found) => {
-            io::print_decimal(STDOUT_FILENO, found.id.0);
+            print!(rt; "{}", found.id.0)?;
             let s = found.status;
-            status(s);
+            status(rt, s)
         }
-        EntryAt::Nothing => word(b""),
+        EntryAt::Nothing => Ok(()),
     }
 }
 
-fn entries(s: Store, log: &[u8], db: &[u8], clog: &[u8], frames: &[u8]) {
+fn entries(
+    rt: &impl Print,
+    s: Store,
+    log: &[u8],
+    db: &[u8],
+    clog: &[u8],
+    frames: &[u8],
+) -> io::Result<()> {
     let n = quiet::entry_count(s, log, db, clog, frames);
     let mut i = 0;
     while i < n.entries {
         let r = quiet::entry_at(s, i, log, db, clog, frames);
         let e = r.entry;
-        entry(e);
+        entry(rt, e)?;
         i += 1;
     }
+    Ok(())
 }
 
-fn counters(s: Store) {
-    line(b"pages", s.pages as u64);
-    line(b"next", s.next.0);
-    line(b"commit", s.time.0);
-    line(b"frozen", s.mark.0);
+fn counters(rt: &impl Print, s: Store) -> io::Result<()> {
+    line(rt, b"pages", s.pages as u64)?;
+    line(rt, b"next", s.next.0)?;
+    line(rt, b"commit", s.time.0)?;
+    line(rt, b"frozen", s.mark.0)
 }
 
 fn report(
+    rt: &impl Print,
     lens: Lens,
     log: &mut [u8; 24576],
     db: &mut [u8; 32768],
     clog: &mut [u8; 4096],
     frames: &[u8; 4096],
-) {
+) -> io::Result<()> {
     let r = opens::open(lens, log, db, clog, &frames[..]);
     let verdict = r.verdict;
     let number = number_of(verdict);
-    line(b"open", number as u64);
+    line(rt, b"open", number as u64)?;
     if number != 0 {
-        return;
+        return Ok(());
     }
     let s = r.store;
-    counters(s);
-    entries(s, &log[..], &db[..], &clog[..], &frames[..]);
-    line(b"log", s.lens.log as u64);
-    line(b"clog", s.lens.clog as u64);
+    counters(rt, s)?;
+    entries(rt, s, &log[..], &db[..], &clog[..], &frames[..])?;
+    line(rt, b"log", s.lens.log as u64)?;
+    line(rt, b"clog", s.lens.clog as u64)
 }
 
-fn readable(f: Fetched, name: &[u8]) -> bool {
+fn readable(rt: &impl Print, f: Fetched, name: &str) -> io::Result<bool> {
     if !f.readable {
-        word(name);
-        word(b" cannot be read\n");
-        return false;
+        println!(rt; "{name} cannot be read")?;
+        return Ok(false);
     }
-    true
+    Ok(true)
 }
 
-fn main() {
+fn main(rt: HostRuntime) -> io::Result<()> {
     let mut log = [0u8; 24576];
     let mut db = [0u8; 32768];
     let mut clog = [0u8; 4096];
     let frames = [0u8; 4096];
-    let l = fetch(b"store.db.wal", &mut log);
-    let d = fetch(b"store.db", &mut db);
-    let c = fetch(b"store.db.clog", &mut clog);
-    if !readable(l, b"store.db.wal") {
-        return;
+    let l = fetch(&rt, "store.db.wal", &mut log);
+    let d = fetch(&rt, "store.db", &mut db);
+    let c = fetch(&rt, "store.db.clog", &mut clog);
+    if !readable(&rt, l, "store.db.wal")? {
+        return Ok(());
     }
-    if !readable(d, b"store.db") {
-        return;
+    if !readable(&rt, d, "store.db")? {
+        return Ok(());
     }
-    if !readable(c, b"store.db.clog") {
-        return;
+    if !readable(&rt, c, "store.db.clog")? {
+        return Ok(());
     }
     let lens = Lens {
         log: l.len,
         db: d.len,
         clog: c.len,
     };
-    report(lens, &mut log, &mut db, &mut clog, &frames);
+    report(&rt, lens, &mut log, &mut db, &mut clog, &frames)
 }

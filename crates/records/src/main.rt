@@ -1,117 +1,144 @@
 // Lists the records of the log `store.db.wal` in the current folder (a missing file counts as empty): the place of each tag, what the record is, its
 // fields, the place after it; then how the log ended. A file of over 24,576 bytes does not fit and gives 1.
-use libc::STDOUT_FILENO;
+#![tactic(auto)]
+
+ghost use Rattle.std.specs.Prelude.{◌≤◌, length};
+
+use std::fs::File;
+use std::io;
+use std::rt::Files;
 use wal::{Read, WalRecord};
 
 const ROOM: usize = 24576;
 
-fn word(text: &[u8]) {
-    io::write_all(STDOUT_FILENO, text);
+fn word(rt: &impl Print, text: &[u8]) -> io::Result<()> {
+    rt.write_all(text)
 }
 
-fn number(n: u64) {
-    word(b" ");
-    io::print_decimal(STDOUT_FILENO, n);
+fn number(rt: &impl Print, n: u64) -> io::Result<()> {
+    print!(rt; " {n}")
 }
 
 // A kind and up to two fields, then the place after the record.
-fn line(at: usize, next: usize, r: WalRecord) {
-    io::print_decimal(STDOUT_FILENO, at as u64);
+fn line(rt: &impl Print, at: usize, next: usize, r: WalRecord) -> io::Result<()> {
+    print!(rt; "{at}")?;
     match r {
         WalRecord::Image(page, _) => {
-            word(b" image");
-            number(page as u64);
+            word(rt, b" image")?;
+            number(rt, page as u64)?;
         }
         WalRecord::Begin(id) => {
-            word(b" begin");
-            number(id.0);
+            word(rt, b" begin")?;
+            number(rt, id.0)?;
         }
         WalRecord::Commit(id, time) => {
-            word(b" commit");
-            number(id.0);
-            number(time.0);
+            word(rt, b" commit")?;
+            number(rt, id.0)?;
+            number(rt, time.0)?;
         }
         WalRecord::Abort(id) => {
-            word(b" abort");
-            number(id.0);
+            word(rt, b" abort")?;
+            number(rt, id.0)?;
         }
         WalRecord::Checkpoint => {
-            word(b" checkpoint");
+            word(rt, b" checkpoint")?;
         }
     }
-    number(next as u64);
-    word(b"\n");
+    number(rt, next as u64)?;
+    word(rt, b"\n")
 }
 
 // Where a bad record stands, with its number.
-fn bad(no: &[u8], at: usize) {
-    word(no);
-    word(b" at");
-    number(at as u64);
+fn bad(rt: &impl Print, no: &[u8], at: usize) -> io::Result<()> {
+    word(rt, no)?;
+    word(rt, b" at")?;
+    number(rt, at as u64)
 }
 
 // Writes what was read at a place; gives the place to read next, 0 where the list ends.
-fn show(at: usize, r: Read) -> usize {
+fn show(rt: &impl Print, at: usize, r: Read) -> io::Result<usize> {
     match r {
         Read::Found(found, next) => {
-            line(at, next, found);
-            return next;
+            line(rt, at, next, found)?;
+            return Ok(next);
         }
         Read::End => {
-            word(b"end");
-            number(at as u64);
+            word(rt, b"end")?;
+            number(rt, at as u64)?;
         }
         Read::Torn(missing) => {
-            bad(b"2", at);
-            word(b" short");
-            number(missing as u64);
+            bad(rt, b"2", at)?;
+            word(rt, b" short")?;
+            number(rt, missing as u64)?;
         }
         Read::Unknown => {
-            bad(b"3", at);
+            bad(rt, b"3", at)?;
         }
         Read::Outside => {
-            word(b"1");
+            word(rt, b"1")?;
         }
     }
-    word(b"\n");
-    0
+    word(rt, b"\n")?;
+    Ok(0)
 }
 
 // Each record takes at least a byte, so that as many turns are enough.
-fn list(log: &[u8], len: usize) {
+fn list(rt: &impl Print, log: &[u8], len: usize) -> io::Result<()> {
     let mut at = wal::start_of(log, len);
     let mut left = ROOM;
     while 0 < left {
         left -= 1;
-        at = show(at, wal::read_record(log, len, at));
+        at = show(rt, at, wal::read_record(log, len, at))?;
         if at == 0 {
-            return;
+            return Ok(());
         }
+    }
+    Ok(())
+}
+
+// Reads until the buffer is full, the file ends or a read fails, and gives how many bytes are at the buffer's start.
+fn read_full(file: &mut impl io::Read, buf: &mut [u8]) -> usize
+    ensures { result ≤ length buf.new }
+{
+    let mut done = 0;
+    while done < buf.len() {
+        let n = read_some(file, &mut buf[done..]);
+        if n == 0 {
+            break;
+        }
+        done += n;
+    }
+    done
+}
+
+// A read that fails gives nothing, as at the end.
+fn read_some(file: &mut impl io::Read, buf: &mut [u8]) -> usize
+    ensures { result ≤ length buf.new }
+{
+    match file.read(buf) {
+        Ok(n) => n,
+        Err(_) => 0,
     }
 }
 
 // The file's bytes into the buffer, which has one more than the log may have; gives how many.
-fn fetch(log: &mut [u8; 24577]) -> usize {
-    let file = os::open_read(b"store.db.wal");
-    if file < 0 {
-        return 0;
+fn fetch(rt: &impl Files, log: &mut [u8; 24577]) -> usize {
+    match File::open(rt, "store.db.wal") {
+        Ok(mut file) => read_full(&mut file, log),
+        Err(_) => 0,
     }
-    let len = io::read_full(file, log);
-    libc::close(file);
-    len
 }
 
-fn report(log: &[u8; 24577], len: usize) {
+fn report(rt: &impl Print, log: &[u8; 24577], len: usize) -> io::Result<()> {
     let bytes = &log[..];
     if ROOM < len {
-        word(b"1\n");
-        return;
+        return word(rt, b"1\n");
     }
-    list(&bytes[..ROOM], len);
+    list(rt, &bytes[..ROOM], len)
 }
 
-fn main() {
+fn main(rt: HostRuntime) -> io::Result<()> {
     let mut log = [0u8; 24577];
-    let len = fetch(&mut log);
-    report(&log, len);
+    let len = fetch(&rt, &mut log);
+    report(&rt, &log, len)
 }

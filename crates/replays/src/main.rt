@@ -18,13 +18,20 @@
 // the transaction set aside; 0 where there is nothing. Numbers above 14 are the program's own: 15 no store, 16 no transaction set aside, 17 no such opcode. Then, of
 // a store: page count, next id, next commit time, mark, number of entries and a sum over them, the transaction's id and the number of its pages. Then the length of
 // log, database and clog, each with a sum over its bytes.
+#![tactic(auto)]
+
+ghost use Rattle.std.specs.Prelude.{◌≤◌, length};
+
 use fields::{Answer, CommitTime, TransactionId, numbers};
 use form::{Changed, Held, Store};
 use frames::Transaction;
-use libc::STDOUT_FILENO;
 use meta::Counters;
 use opening::{Opened, Verdict};
 use quiet::EntryAt;
+use std::fs::File;
+use std::io;
+use std::io::Read;
+use std::rt::Files;
 use stores::Cut;
 use table::{Entry, Status};
 use world::{Lens, Slot};
@@ -68,13 +75,12 @@ fn low(n: u64) -> u32 {
 
 // ---- what is written
 
-fn word(text: &[u8]) {
-    io::write_all(STDOUT_FILENO, text);
+fn word(rt: &impl Print, text: &[u8]) -> io::Result<()> {
+    rt.write_all(text)
 }
 
-fn number(n: u64) {
-    word(b" ");
-    io::print_decimal(STDOUT_FILENO, n);
+fn number(rt: &impl Print, n: u64) -> io::Result<()> {
+    print!(rt; " {n}")
 }
 
 // One step of a sum that tells the order, too.
@@ -97,10 +103,10 @@ fn sum(s: &[u8]) -> u64 {
 }
 
 // The file is what the buffer holds up to the length.
-fn show_file(file: &[u8], len: usize) {
+fn show_file(rt: &impl Print, file: &[u8], len: usize) -> io::Result<()> {
     let end = fields::smaller(len, file.len());
-    number(len as u64);
-    number(sum(&file[..end]));
+    number(rt, len as u64)?;
+    number(rt, sum(&file[..end]))
 }
 
 fn tag_of(s: Status) -> u64 {
@@ -133,7 +139,14 @@ fn place_mixed(total: u64, e: EntryAt) -> u64 {
     }
 }
 
-fn show_entries(s: Store, log: &[u8], db: &[u8], clog: &[u8], frames: &[u8]) {
+fn show_entries(
+    rt: &impl Print,
+    s: Store,
+    log: &[u8],
+    db: &[u8],
+    clog: &[u8],
+    frames: &[u8],
+) -> io::Result<()> {
     let n = quiet::entry_count(s, log, db, clog, frames);
     let mut total: u64 = 7;
     let mut i = 0;
@@ -143,52 +156,66 @@ fn show_entries(s: Store, log: &[u8], db: &[u8], clog: &[u8], frames: &[u8]) {
         total = place_mixed(total, e);
         i += 1;
     }
-    number(n.entries as u64);
-    number(total);
+    number(rt, n.entries as u64)?;
+    number(rt, total)
 }
 
-fn show_held(h: Held) {
+fn show_held(rt: &impl Print, h: Held) -> io::Result<()> {
     let slot = h.slot;
     let touched = h.touched;
     match slot {
-        Slot::Installed(id) => number(id.0),
-        Slot::Empty => word(b" -"),
+        Slot::Installed(id) => number(rt, id.0)?,
+        Slot::Empty => word(rt, b" -")?,
     }
-    number(touched.count as u64);
+    number(rt, touched.count as u64)
 }
 
-fn show_store(s: Store, log: &[u8], db: &[u8], clog: &[u8], frames: &[u8]) {
+fn show_store(
+    rt: &impl Print,
+    s: Store,
+    log: &[u8],
+    db: &[u8],
+    clog: &[u8],
+    frames: &[u8],
+) -> io::Result<()> {
     let held = s.held;
-    word(b" |");
-    number(s.pages as u64);
-    number(s.next.0);
-    number(s.time.0);
-    number(s.mark.0);
-    show_entries(s, log, db, clog, frames);
-    show_held(held);
+    word(rt, b" |")?;
+    number(rt, s.pages as u64)?;
+    number(rt, s.next.0)?;
+    number(rt, s.time.0)?;
+    number(rt, s.mark.0)?;
+    show_entries(rt, s, log, db, clog, frames)?;
+    show_held(rt, held)
 }
 
-fn show_answer(op: u64, no: u8, gave: u64) {
-    io::print_decimal(STDOUT_FILENO, op);
-    number(no as u64);
-    number(gave);
+fn show_answer(rt: &impl Print, op: u64, no: u8, gave: u64) -> io::Result<()> {
+    print!(rt; "{op}")?;
+    number(rt, no as u64)?;
+    number(rt, gave)
 }
 
-fn show_files(lens: Lens, log: &[u8], db: &[u8], clog: &[u8]) {
-    word(b" |");
-    show_file(log, lens.log);
-    show_file(db, lens.db);
-    show_file(clog, lens.clog);
-    word(b"\n");
+fn show_files(rt: &impl Print, lens: Lens, log: &[u8], db: &[u8], clog: &[u8]) -> io::Result<()> {
+    word(rt, b" |")?;
+    show_file(rt, log, lens.log)?;
+    show_file(rt, db, lens.db)?;
+    show_file(rt, clog, lens.clog)?;
+    word(rt, b"\n")
 }
 
-fn show_state(s: State, log: &[u8], db: &[u8], clog: &[u8], frames: &[u8]) {
+fn show_state(
+    rt: &impl Print,
+    s: State,
+    log: &[u8],
+    db: &[u8],
+    clog: &[u8],
+    frames: &[u8],
+) -> io::Result<()> {
     let store = s.store;
     let lens = store.lens;
     if s.live {
-        show_store(store, log, db, clog, frames);
+        show_store(rt, store, log, db, clog, frames)?;
     }
-    show_files(lens, log, db, clog);
+    show_files(rt, lens, log, db, clog)
 }
 
 // ---- states
@@ -666,19 +693,20 @@ fn next_cut(c: Command) -> usize {
 }
 
 fn turn(
+    rt: &impl Print,
     s: State,
     c: Command,
     log: &mut [u8],
     db: &mut [u8],
     clog: &mut [u8],
     frames: &mut [u8],
-) -> State {
+) -> io::Result<State> {
     let d = obeyed(s, c, log, db, clog, frames);
     let after = d.state;
-    show_answer(c.op, d.number, d.gave);
-    show_state(after, &log[..], &db[..], &clog[..], &frames[..]);
+    show_answer(rt, c.op, d.number, d.gave)?;
+    show_state(rt, after, &log[..], &db[..], &clog[..], &frames[..])?;
     let cut = next_cut(c);
-    State { cut, ..after }
+    Ok(State { cut, ..after })
 }
 
 fn nth(script: &[u8], i: usize) -> Command {
@@ -690,38 +718,68 @@ fn nth(script: &[u8], i: usize) -> Command {
     }
 }
 
-fn run(script: &[u8], log: &mut [u8], db: &mut [u8], clog: &mut [u8], frames: &mut [u8]) {
+fn run(
+    rt: &impl Print,
+    script: &[u8],
+    log: &mut [u8],
+    db: &mut [u8],
+    clog: &mut [u8],
+    frames: &mut [u8],
+) -> io::Result<()> {
     let mut s = fresh();
     let mut i = 0;
     while i < script.len() / RECORD {
         let c = nth(script, i);
         i += 1;
-        s = turn(s, c, log, db, clog, frames);
+        s = turn(rt, s, c, log, db, clog, frames)?;
+    }
+    Ok(())
+}
+
+// Reads until the buffer is full, the file ends or a read fails, and gives how many bytes are at the buffer's start.
+fn read_full(file: &mut impl Read, buf: &mut [u8]) -> usize
+    ensures { result ≤ length buf.new }
+{
+    let mut done = 0;
+    while done < buf.len() {
+        let n = read_some(file, &mut buf[done..]);
+        if n == 0 {
+            break;
+        }
+        done += n;
+    }
+    done
+}
+
+// A read that fails gives nothing, as at the end.
+fn read_some(file: &mut impl Read, buf: &mut [u8]) -> usize
+    ensures { result ≤ length buf.new }
+{
+    match file.read(buf) {
+        Ok(n) => n,
+        Err(_) => 0,
     }
 }
 
-fn fetch(script: &mut [u8; 16384]) -> usize {
-    let file = os::open_read(b"script");
-    if file < 0 {
-        return 0;
+fn fetch(rt: &impl Files, script: &mut [u8; 16384]) -> usize {
+    match File::open(rt, "script") {
+        Ok(mut file) => read_full(&mut file, script),
+        Err(_) => 0,
     }
-    let n = io::read_full(file, script);
-    libc::close(file);
-    n
 }
 
-fn start(script: &[u8; 16384], n: usize) {
+fn start(rt: &impl Print, script: &[u8; 16384], n: usize) -> io::Result<()> {
     let mut log = [0xEEu8; 32768];
     let mut db = [0xEEu8; 32768];
     let mut clog = [0xEEu8; 256];
     let mut frames = [0xEEu8; 32768];
     let all = &script[..];
     let end = fields::smaller(n, all.len());
-    run(&all[..end], &mut log, &mut db, &mut clog, &mut frames);
+    run(rt, &all[..end], &mut log, &mut db, &mut clog, &mut frames)
 }
 
-fn main() {
+fn main(rt: HostRuntime) -> io::Result<()> {
     let mut script = [0u8; 16384];
-    let n = fetch(&mut script);
-    start(&script, n);
+    let n = fetch(&rt, &mut script);
+    start(&rt, &script, n)
 }

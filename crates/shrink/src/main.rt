@@ -4,9 +4,17 @@
 // It never writes a file that is there already, and none under the name that a store opens: an opening that was given the second form would reset it, and the
 // statuses would be gone. A move writes its number (0, or why it is refused), and where it is accepted the mark, the base, both lengths and the file's name. A
 // missing file counts as empty; one that is longer than its buffer of 65,536 bytes gives 1.
+#![tactic(auto)]
+
+ghost use Rattle.std.specs.Prelude.{◌≤◌, length};
+
 use fields::{Answer, TransactionId};
-use libc::STDOUT_FILENO;
 use meta::Stored;
+use std::env::{Env, FillError};
+use std::fs::{File, OpenFile};
+use std::io;
+use std::io::{ErrorKind, Read, Write};
+use std::rt::Files;
 
 // A file's length as far as it matters: more than the buffer has where the file is longer. Not readable where there is a file and it cannot be read.
 #[derive(Clone, Copy)]
@@ -15,100 +23,119 @@ struct Fetched {
     len: usize,
 }
 
-fn word(text: &[u8]) {
-    io::write_all(STDOUT_FILENO, text);
+fn word(rt: &impl Print, text: &[u8]) -> io::Result<()> {
+    rt.write_all(text)
 }
 
-fn line(name: &[u8], n: u64) {
-    word(name);
-    word(b" ");
-    io::print_decimal(STDOUT_FILENO, n);
-    word(b"\n");
+fn line(rt: &impl Print, name: &[u8], n: u64) -> io::Result<()> {
+    word(rt, name)?;
+    println!(rt; " {n}")
 }
 
 // ---- files
 
-// One byte more is asked for: where a file goes on it is longer than its buffer, and where it cannot be read that shows at last.
-fn after(file: i32, got: usize) -> Fetched {
-    let mut more = [0u8; 1];
-    let n = libc::read(file, &mut more);
-    libc::close(file);
-    if n < 0 {
-        return Fetched {
-            readable: false,
-            len: 0,
-        };
+// Reads until the buffer is full, the file ends or a read fails, and gives how many bytes are at the buffer's start.
+fn read_full(file: &mut impl Read, buf: &mut [u8]) -> usize
+    ensures { result ≤ length buf.new }
+{
+    let mut done = 0;
+    while done < buf.len() {
+        let n = read_some(file, &mut buf[done..]);
+        if n == 0 {
+            break;
+        }
+        done += n;
     }
-    if n == 0 {
-        return Fetched {
+    done
+}
+
+// A read that fails gives nothing, as at the end.
+fn read_some(file: &mut impl Read, buf: &mut [u8]) -> usize
+    ensures { result ≤ length buf.new }
+{
+    match file.read(buf) {
+        Ok(n) => n,
+        Err(_) => 0,
+    }
+}
+
+// One byte more is asked for: where a file goes on it is longer than its buffer, and where it cannot be read that shows at last.
+fn after(file: &mut impl Read, got: usize) -> Fetched {
+    let mut more = [0u8; 1];
+    match file.read(&mut more) {
+        Ok(0) => Fetched {
             readable: true,
             len: got,
-        };
-    }
-    Fetched {
-        readable: true,
-        len: 131072,
+        },
+        Ok(_) => Fetched {
+            readable: true,
+            len: 131072,
+        },
+        Err(_) => Fetched {
+            readable: false,
+            len: 0,
+        },
     }
 }
 
 // A missing file is an empty one; any other that cannot be opened is not.
-fn unopened() -> Fetched {
+fn unopened(e: io::Error) -> Fetched {
     Fetched {
-        readable: os::errno() == libc::ENOENT,
+        readable: e.kind() == ErrorKind::NotFound,
         len: 0,
     }
 }
 
 // The file's bytes into the buffer.
-fn fetch(name: &[u8], buf: &mut [u8]) -> Fetched {
-    let file = os::open_read(name);
-    if file < 0 {
-        return unopened();
+fn fetch(rt: &impl Files, name: &str, buf: &mut [u8]) -> Fetched {
+    match File::open(rt, name) {
+        Ok(mut file) => {
+            let got = read_full(&mut file, buf);
+            after(&mut file, got)
+        }
+        Err(e) => unopened(e),
     }
-    let got = io::read_full(file, buf);
-    after(file, got)
 }
 
 // The first page of the database, or what there is of it.
-fn fetch_page(buf: &mut [u8]) -> Fetched {
-    let file = os::open_read(b"store.db");
-    if file < 0 {
-        return unopened();
-    }
-    let got = io::read_full(file, buf);
-    libc::close(file);
-    Fetched {
-        readable: true,
-        len: got,
+fn fetch_page(rt: &impl Files, buf: &mut [u8]) -> Fetched {
+    match File::open(rt, "store.db") {
+        Ok(mut file) => Fetched {
+            readable: true,
+            len: read_full(&mut file, buf),
+        },
+        Err(e) => unopened(e),
     }
 }
 
-fn readable(f: Fetched, name: &[u8]) -> bool {
+fn readable(rt: &impl Print, f: Fetched, name: &str) -> io::Result<bool> {
     if !f.readable {
-        word(name);
-        word(b" cannot be read\n");
-        return false;
+        println!(rt; "{name} cannot be read")?;
+        return Ok(false);
     }
-    true
+    Ok(true)
+}
+
+// The close of a file does not tell an error, so that the bytes are brought to the disk before.
+fn written(file: &mut (impl Write + OpenFile), bytes: &[u8]) -> bool {
+    match file.write_all(bytes) {
+        Ok(()) => file.sync_all().is_ok(),
+        Err(_) => false,
+    }
 }
 
 // A new file of the first n bytes; one that is there already stays as it is.
-fn keep(name: &[u8], bytes: &[u8], n: usize) {
-    let file = os::create(name);
-    if file < 0 {
-        word(name);
-        word(b" is there already, or cannot be made\n");
-        return;
-    }
+fn keep(rt: &(impl Files + Print), name: &str, bytes: &[u8], n: usize) -> io::Result<()> {
     let k = fields::smaller(n, bytes.len());
-    let whole = io::write_all(file, &bytes[..k]);
-    let closed = libc::close(file);
-    word(name);
-    if !whole || closed < 0 {
-        word(b" cannot be written\n");
-        return;
+    match File::create_new(rt, name) {
+        Ok(mut file) => {
+            if !written(&mut file, &bytes[..k]) {
+                return println!(rt; "{name} cannot be written");
+            }
+            println!(rt; "{name} is written")
+        }
+        Err(_) => println!(rt; "{name} is there already, or cannot be made"),
     }
-    word(b" is written\n");
 }
 
 // ---- the moves
@@ -129,46 +156,54 @@ fn mark_of(s: Stored) -> u64 {
     }
 }
 
-fn move_second(from: &mut [u8; 65536], to: &mut [u8; 65536]) {
+fn move_second(
+    rt: &(impl Files + Print),
+    from: &mut [u8; 65536],
+    to: &mut [u8; 65536],
+) -> io::Result<()> {
     let mut page = [0u8; 4096];
-    let p = fetch_page(&mut page);
-    if !readable(p, b"store.db") {
-        return;
+    let p = fetch_page(rt, &mut page);
+    if !readable(rt, p, "store.db")? {
+        return Ok(());
     }
-    let c = fetch(b"store.db.clog", from);
-    if !readable(c, b"store.db.clog") {
-        return;
+    let c = fetch(rt, "store.db.clog", from);
+    if !readable(rt, c, "store.db.clog")? {
+        return Ok(());
     }
     let stored = meta::read_meta(&page[..], p.len);
     let mark = mark_of(stored);
     let a = shrunk::to_second(&from[..], c.len, TransactionId(mark), to);
-    line(b"second", number_of(a) as u64);
+    line(rt, b"second", number_of(a) as u64)?;
     if number_of(a) != 0 {
-        return;
+        return Ok(());
     }
     let n = fields::length_of(a);
-    line(b"mark", mark);
-    line(b"base", fields::get_big_u64(&to[..], 5));
-    line(b"old length", c.len as u64);
-    line(b"new length", n as u64);
-    keep(b"store.db.clog.second", &to[..], n);
+    line(rt, b"mark", mark)?;
+    line(rt, b"base", fields::get_big_u64(&to[..], 5))?;
+    line(rt, b"old length", c.len as u64)?;
+    line(rt, b"new length", n as u64)?;
+    keep(rt, "store.db.clog.second", &to[..], n)
 }
 
-fn move_first(from: &mut [u8; 65536], to: &mut [u8; 65536]) {
-    let s = fetch(b"store.db.clog.second", from);
-    if !readable(s, b"store.db.clog.second") {
-        return;
+fn move_first(
+    rt: &(impl Files + Print),
+    from: &mut [u8; 65536],
+    to: &mut [u8; 65536],
+) -> io::Result<()> {
+    let s = fetch(rt, "store.db.clog.second", from);
+    if !readable(rt, s, "store.db.clog.second")? {
+        return Ok(());
     }
     let a = shrunk::to_first(&from[..], s.len, to);
-    line(b"first", number_of(a) as u64);
+    line(rt, b"first", number_of(a) as u64)?;
     if number_of(a) != 0 {
-        return;
+        return Ok(());
     }
     let n = fields::length_of(a);
-    line(b"base", fields::get_big_u64(&from[..], 5));
-    line(b"new length", s.len as u64);
-    line(b"old length", n as u64);
-    keep(b"store.db.clog.first", &to[..], n);
+    line(rt, b"base", fields::get_big_u64(&from[..], 5))?;
+    line(rt, b"new length", s.len as u64)?;
+    line(rt, b"old length", n as u64)?;
+    keep(rt, "store.db.clog.first", &to[..], n)
 }
 
 // Whether an argument is this word, and no longer one.
@@ -179,36 +214,48 @@ fn is_word(text: &[u8], wanted: &[u8]) -> bool {
     fields::begins(wanted, text)
 }
 
-fn one(text: &[u8], from: &mut [u8; 65536], to: &mut [u8; 65536]) {
+fn one(
+    rt: &(impl Files + Print),
+    text: &[u8],
+    from: &mut [u8; 65536],
+    to: &mut [u8; 65536],
+) -> io::Result<()> {
     if is_word(text, b"second") {
-        move_second(from, to);
-        return;
+        return move_second(rt, from, to);
     }
     if is_word(text, b"first") {
-        move_first(from, to);
-        return;
+        return move_first(rt, from, to);
     }
-    word(text);
-    word(b" is no move: second, or first\n");
+    word(rt, text)?;
+    word(rt, b" is no move: second, or first\n")
 }
 
-fn argument(i: usize, from: &mut [u8; 65536], to: &mut [u8; 65536]) {
+// Whether there is such an argument; its move is made. One that is longer than its buffer is an empty one, and no move.
+fn argument(
+    rt: &(impl Env + Files + Print),
+    i: usize,
+    from: &mut [u8; 65536],
+    to: &mut [u8; 65536],
+) -> io::Result<bool> {
     let mut text = [0u8; 16];
-    let n = os::arg(i, &mut text);
-    one(&text[..n], from, to);
+    match rt.arg(i, &mut text) {
+        Ok(n) => one(rt, &text[..n], from, to)?,
+        Err(FillError::TooLong) => one(rt, b"", from, to)?,
+        Err(FillError::NotPresent) => return Ok(false),
+    }
+    Ok(true)
 }
 
-fn main() {
+fn main(rt: HostRuntime) -> io::Result<()> {
     let mut from = [0u8; 65536];
     let mut to = [0u8; 65536];
-    let count = os::arg_count();
-    if count <= 1 {
-        move_second(&mut from, &mut to);
-        return;
+    if !argument(&rt, 1, &mut from, &mut to)? {
+        return move_second(&rt, &mut from, &mut to);
     }
-    let mut i = 1;
-    while i < count {
-        argument(i, &mut from, &mut to);
-        i += 1;
+    for i in 2..usize::MAX {
+        if !argument(&rt, i, &mut from, &mut to)? {
+            break;
+        }
     }
+    Ok(())
 }

@@ -1,20 +1,24 @@
 // Runs the calls of the file `calls` on a clog in a buffer of 4,096 bytes, and writes after each its kind, its number, the clog's length and a sum over its
 // bytes, and after a load the entries. The list and what must be written were made by the published Rust.
-ghost use Rattle.std.specs.Prelude.{◌<◌};
+#![tactic(auto)]
+
+ghost use Rattle.std.specs.Prelude.{◌<◌, ◌≤◌, length};
 
 use fields::{Answer, TransactionId};
-use libc::STDOUT_FILENO;
+use std::fs::File;
+use std::io;
+use std::io::Read;
+use std::rt::Files;
 use table::{Status, Table};
 
 const CALL_SIZE: usize = 9;
 
-fn word(text: &[u8]) {
-    io::write_all(STDOUT_FILENO, text);
+fn word(rt: &impl Print, text: &[u8]) -> io::Result<()> {
+    rt.write_all(text)
 }
 
-fn number(n: u64) {
-    word(b" ");
-    io::print_decimal(STDOUT_FILENO, n);
+fn number(rt: &impl Print, n: u64) -> io::Result<()> {
+    print!(rt; " {n}")
 }
 
 fn wide(b: u8) -> u64
@@ -41,29 +45,30 @@ fn after(len: usize, a: Answer) -> usize {
     }
 }
 
-fn show_status(s: Status) {
+fn show_status(rt: &impl Print, s: Status) -> io::Result<()> {
     match s {
-        Status::Active => word(b" I\n"),
+        Status::Active => word(rt, b" I\n"),
         Status::Committed(time) => {
-            word(b" C");
-            number(time.0);
-            word(b"\n");
+            word(rt, b" C")?;
+            number(rt, time.0)?;
+            word(rt, b"\n")
         }
-        Status::Aborted => word(b" A\n"),
+        Status::Aborted => word(rt, b" A\n"),
     }
 }
 
-fn show_table(t: Table) {
+fn show_table(rt: &impl Print, t: Table) -> io::Result<()> {
     let n = fields::smaller(t.count, 256);
     let mut i = 0;
     while i < n {
         let e = t.entries[i];
-        word(b" ");
-        number(e.id.0);
+        word(rt, b" ")?;
+        number(rt, e.id.0)?;
         let s = e.status;
-        show_status(s);
+        show_status(rt, s)?;
         i += 1;
     }
+    Ok(())
 }
 
 // One call that gives no table.
@@ -84,61 +89,84 @@ fn committed() -> Status {
     Status::Committed(fields::CommitTime(1))
 }
 
-fn line(clog: &[u8], len: usize, kind: u8, n: u64) {
-    io::print_decimal(STDOUT_FILENO, kind as u64);
-    number(n);
-    number(len as u64);
+fn line(rt: &impl Print, clog: &[u8], len: usize, kind: u8, n: u64) -> io::Result<()> {
+    print!(rt; "{kind}")?;
+    number(rt, n)?;
+    number(rt, len as u64)?;
     let end = fields::smaller(len, clog.len());
-    number(sum(&clog[..end]));
-    word(b"\n");
+    number(rt, sum(&clog[..end]))?;
+    word(rt, b"\n")
 }
 
-fn turn(clog: &mut [u8], len: usize, kind: u8, n: u64) -> usize {
+fn turn(rt: &impl Print, clog: &mut [u8], len: usize, kind: u8, n: u64) -> io::Result<usize> {
     if kind == 6 {
         let r = clog::load(clog, len);
         let a = r.answer;
         let t = r.table;
         let end = after(len, a);
-        line(&clog[..], end, kind, n);
-        show_table(t);
-        return end;
+        line(rt, &clog[..], end, kind, n)?;
+        show_table(rt, t)?;
+        return Ok(end);
     }
     let end = call(clog, len, kind, n);
-    line(&clog[..], end, kind, n);
-    end
+    line(rt, &clog[..], end, kind, n)?;
+    Ok(end)
 }
 
-fn run(calls: &[u8], clog: &mut [u8]) {
+fn run(rt: &impl Print, calls: &[u8], clog: &mut [u8]) -> io::Result<()> {
     let mut len = 0;
     let mut i = 0;
     while i < calls.len() / CALL_SIZE {
         let at = i * CALL_SIZE;
         let kind = calls[at];
         let n = fields::get_u64(calls, at + 1);
-        len = turn(clog, len, kind, n);
+        len = turn(rt, clog, len, kind, n)?;
         i += 1;
     }
+    Ok(())
 }
 
-fn fetch(calls: &mut [u8; 4096]) -> usize {
-    let file = os::open_read(b"calls");
-    if file < 0 {
-        return 0;
+// Reads until the buffer is full, the file ends or a read fails, and gives how many bytes are at the buffer's start.
+fn read_full(file: &mut impl Read, buf: &mut [u8]) -> usize
+    ensures { result ≤ length buf.new }
+{
+    let mut done = 0;
+    while done < buf.len() {
+        let n = read_some(file, &mut buf[done..]);
+        if n == 0 {
+            break;
+        }
+        done += n;
     }
-    let n = io::read_full(file, calls);
-    libc::close(file);
-    n
+    done
 }
 
-fn start(calls: &[u8; 4096], n: usize, clog: &mut [u8; 4096]) {
+// A read that fails gives nothing, as at the end.
+fn read_some(file: &mut impl Read, buf: &mut [u8]) -> usize
+    ensures { result ≤ length buf.new }
+{
+    match file.read(buf) {
+        Ok(n) => n,
+        Err(_) => 0,
+    }
+}
+
+fn fetch(rt: &impl Files, calls: &mut [u8; 4096]) -> usize {
+    match File::open(rt, "calls") {
+        Ok(mut file) => read_full(&mut file, calls),
+        Err(_) => 0,
+    }
+}
+
+fn start(rt: &impl Print, calls: &[u8; 4096], n: usize, clog: &mut [u8; 4096]) -> io::Result<()> {
     let all = &calls[..];
     let end = fields::smaller(n, all.len());
-    run(&all[..end], clog);
+    run(rt, &all[..end], clog)
 }
 
-fn main() {
+fn main(rt: HostRuntime) -> io::Result<()> {
     let mut calls = [0u8; 4096];
     let mut clog = [0xEEu8; 4096];
-    let n = fetch(&mut calls);
-    start(&calls, n, &mut clog);
+    let n = fetch(&rt, &mut calls);
+    start(&rt, &calls, n, &mut clog)
 }

@@ -1,8 +1,7 @@
 -- `backs::file_sum` is safe. Assumes nothing.
 use native.Mathlib.Omega.{arith}
-use borrow.Author.Rules.{rules}
 use lib.ListN.{length-take}
 use Rattle.backs.proofs.file_sum.Goals as goal
 
 pub slice_bounds-sum-end : goal.slice_bounds-sum-end
-slice_bounds-sum-end c = simp length-take (omega arith)
+slice_bounds-sum-end g c = simp length-take (omega arith)

@@ -1,7 +1,5 @@
 -- `backs::sum` is safe and ends. Assumes nothing.
 use Prim.Native.Nat.{◌-◌, ◌≤◌, ◌<◌}
-use native.Mathlib.Omega.{arith}
-use borrow.Author.Rules.{rules}
 use lib.ListN.{length}
 use Rattle.backs.proofs.sum.Given as goal
 

@@ -1,6 +1,5 @@
 -- `limits::first_ids` is safe and ends. Assumes nothing.
 use Prim.Native.Nat.{◌-◌, ◌≤◌}
-use borrow.Author.Rules.{rules}
 use Rattle.limits.proofs.first_ids.Given as goal
 
 abbrev pub invariant-loop-i : goal.invariant-loop-i

@@ -1,6 +1,5 @@
 -- `limits::first_pages` is safe and ends. Assumes nothing.
 use Prim.Native.Nat.{◌-◌, ◌≤◌}
-use borrow.Author.Rules.{rules}
 use Rattle.limits.proofs.first_pages.Given as goal
 
 abbrev pub invariant-loop-i : goal.invariant-loop-i

@@ -4,4 +4,4 @@ use lib.ListN.{length-take}
 use Rattle.records.proofs.report.Goals as goal
 
 pub slice_bounds-list-end : goal.slice_bounds-list-end
-slice_bounds-list-end c = simp length-take (omega arith)
+slice_bounds-list-end g c = simp length-take (omega arith)

@@ -1,6 +1,5 @@
 -- `replays::sum` is safe and ends. Assumes nothing.
 use Prim.Native.Nat.{◌-◌, ◌≤◌}
-use borrow.Author.Rules.{rules}
 use lib.ListN.{length}
 use Rattle.replays.proofs.sum.Given as goal
 

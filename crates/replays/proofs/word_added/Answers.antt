@@ -1,6 +1,5 @@
 -- `replays::word_added` is safe. Assumes nothing.
 use native.Mathlib.Omega.{arith}
-use borrow.Author.Rules.{rules}
 use lib.ListN.{length-take}
 use Rattle.replays.proofs.word_added.Goals as goal
 

@@ -2,8 +2,7 @@
 use mathlib.Core.Path.{sym}
 use native.Mathlib.Omega.{arith}
 use lib.Seq.{length-take-le}
-use borrow.Author.Rules.{rules}
 use Rattle.shrink.proofs.keep.Goals as goal
 
-pub slice_bounds-write_all-end : goal.slice_bounds-write_all-end
-slice_bounds-write_all-end c = sym (length-take-le _ _ (omega (arith, c.smaller-k.ensures)))
+pub slice_bounds-written-end : goal.slice_bounds-written-end
+slice_bounds-written-end g c = sym (length-take-le _ _ (omega (arith, c.smaller-k.ensures)))

@@ -1,7 +1,5 @@
 -- `slots::sum` is safe and ends. Assumes nothing.
 use Prim.Native.Nat.{◌-◌, ◌≤◌, ◌<◌}
-use native.Mathlib.Omega.{arith}
-use borrow.Author.Rules.{rules}
 use lib.ListN.{length}
 use Rattle.slots.proofs.sum.Given as goal
 
