@@ -1,6 +1,8 @@
 // The tests of page numbers that 14 asks for, on the lent arrays and without an early way out, so that several pages are compared at once. Pages that ascend are
 // distinct: the pairs are compared only where they do not ascend. Resident pages are 32-bit numbers and touched pages 64-bit ones, so that no function can be handed the
 // one for the other. The definitions are those of crate frames.
+#![tactic(auto)]
+
 ghost use Rattle.std.specs.Prelude.{◌≡◌, ◌≤◌, ◌&&◌, ◌||◌, take, drop};
 ghost use Rattle.frames.specs.Pages.{is_in, distinct, ascending, any_bad, frame_count, frames_formed, touched_formed};
 

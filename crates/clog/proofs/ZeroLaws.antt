@@ -1,11 +1,11 @@
 -- Packed bytes that begin with zeros: what compact, load and the slots make of n bytes of zeros and the bytes bs after them. Slot 4 n of the whole is the first of
 -- bs. The second form of a clog leaves such zeros out (crate shrunk). Assumes nothing.
-use mathlib.Core.Path.{◌≡◌, refl, sym, ap, ◌∙◌}
-use mathlib.Core.List.{List, [], ◌∷◌, ◌++◌, map}
-use Prim.Native.Nat.{ℕ, zero, suc, ◌+◌, ◌-◌, ◌*◌, ◌/◌, ◌%◌, ◌≤◌, ◌<◌}
+use mathlib.Core.Path.{◌≡◌, refl, ap, ◌∙◌}
+use mathlib.Core.List.{List, ◌∷◌, ◌++◌, map}
+use Prim.Native.Nat.{ℕ, zero, suc, ◌+◌, ◌-◌, ◌*◌}
 use native.Mathlib.Nat.{zero-div, zero-mul}
 use native.Mathlib.Omega.{arith}
-use lib.ListN.{length, get_or, replicate, length-replicate}
+use lib.ListN.{replicate}
 use Rattle.clog.specs.Slots.{bits_of, high_bits, cleared, codes, entry_of, entries_from, settled_code, settled_byte}
 
 high_zero : (w : ℕ) → high_bits w 0 ≡ 0

@@ -2,6 +2,8 @@
 // definition of specs/Calls.antt. What record, compact and load do is told over the header's length h and the first id, base:
 // 8 and 0 in the form of document 01. The functions over any h and base, `record_in`, `compact_in` and `load_in`, are public for the second form (crate shrunk);
 // a base has 32 bits there, so that no id of a clog can pass 64.
+#![tactic(auto)]
+
 ghost use Rattle.std.specs.Prelude.{◌≡◌, map, cond, ◌+◌, ◌-◌, ◌/◌, ◌^◌, ◌<◌, ◌≤◌, length, take, drop, get_or, eqb};
 ghost use Rattle.std.proofs.lemmas.List.Edits.{sets};
 ghost use Rattle.fields.specs.Files.{file_of};

@@ -1,6 +1,8 @@
 // Fields of a byte buffer: numbers of 4 and 8 bytes, little-endian and big-endian, bytes copied into a lent part, zeros, and the test of a magic.
 // Every public function is total: what lies outside the buffer is neither read nor written, and its contract says so by one
 // equation with a definition of specs/Bytes.antt or with `sets`, which stores what lies inside a list and ignores the rest.
+#![tactic(auto)]
+
 pub mod numbers;
 
 ghost use Rattle.std.specs.Prelude.{◌≡◌, ◌+◌, ◌-◌, ◌^◌, ◌≤◌, ◌<◌, min, max, length, replicate, set};

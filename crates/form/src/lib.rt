@@ -1,5 +1,7 @@
 // A store between calls, and the tests of the refusals 1 and 14 that every call makes first. The buffers are lent to each call; the store itself is a value that
 // goes in and comes back. specs/Store.antt reads a store and its buffers as the lists that calls are defined over.
+#![tactic(auto)]
+
 ghost use Rattle.std.specs.Prelude.{◌≡◌, length};
 ghost use Rattle.world.specs.World.{files_of};
 ghost use Rattle.world.specs.Refusals.{bad_buffers, front_no, is_installed};

@@ -1,6 +1,8 @@
 // Resident pages and their frames, the pages that a transaction touched, and page bytes copied between the database and the frames.
 // A page's frame is the part of the frame buffer from its slot times 4,096 on; its slot is its index in the list of resident pages.
 // Values go in by value and come back. Every public function is total: its contract is an equation with a definition of specs/.
+#![tactic(auto)]
+
 ghost use Rattle.std.specs.Prelude.{◌≡◌, ◌≤◌, ◌<◌, ◌+◌, ◌-◌, ◌*◌, min, ◌∷◌, ◌++◌, ◌||◌, length, take, drop, eqb};
 ghost use Rattle.std.proofs.lemmas.List.Edits.{sets};
 ghost use Rattle.fields.specs.Bytes.{part};

@@ -1,5 +1,7 @@
 // Which touched pages a call logs, writes or reverts, picked straight from the lent arrays, and the plans that are made of them. What is picked is what crate picks
 // says; a touched page is a 64-bit number and a resident one a 32-bit number, so a touched number that 32 bits do not hold is never resident.
+#![tactic(auto)]
+
 ghost use Rattle.std.specs.Prelude.{◌≡◌, [], false, ◌<◌, min, take};
 ghost use Rattle.fields.specs.Answers.{no_time};
 ghost use Rattle.frames.specs.Pages.{is_in, found_in, place_told};

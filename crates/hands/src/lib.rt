@@ -1,5 +1,7 @@
 // The status table, handed out into a lent slice of entries: how many go is told first, then they are laid, one a turn. An entry is its id and its status, a
 // Committed one with its time.
+#![tactic(auto)]
+
 ghost use Rattle.std.specs.Prelude.{◌≡◌, ◌<◌, get_or};
 ghost use Rattle.table.specs.Entries.{blank};
 ghost use Rattle.hands.specs.Handing.{hand_no, handed_as, handed};

@@ -17,7 +17,6 @@ use Rattle.rows.specs.Rows.{row_of, any_odd, entry_of}
 use Rattle.rows.specs.Inside.{bad_rows}
 use Rattle.rows.proofs.Laws.{map_first, sound-all, bad-is}
 use Rattle.frames.specs.Pages.{frames_formed, touched_formed}
-use Rattle.world.specs.declared.Slot.{Slot}
 use Rattle.world.specs.World.{files_of}
 use Rattle.world.specs.Calls.{Call}
 use Rattle.world.specs.Refusals.{front_no, bad_buffers}
@@ -26,8 +25,7 @@ use Rattle.form.specs.Inside.{out_of_form}
 use Rattle.form.proofs.Arrays.{Sized}
 use Rattle.form.proofs.Front.{form-is, front-is, InForm, front-means, few-frames}
 use Rattle.form.proofs.Called.{refused-front}
-use Rattle.lent.specs.declared.Head.{Head}
-use Rattle.lent.specs.Lent.{Lent, lent, slot_in, store_of, odd_head, odd, held_of, own_of, head_of, laid_lent, Left, leaving, left_of, odd_no, unless_odd, called_lent}
+use Rattle.lent.specs.Lent.{Lent, slot_in, store_of, odd_head, odd, held_of, own_of, head_of, laid_lent, leaving, left_of, odd_no, unless_odd, called_lent}
 
 -- the arrays have their sizes
 pub record Fit (s : Lent) : Type 0 where

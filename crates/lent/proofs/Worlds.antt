@@ -1,11 +1,11 @@
 -- From what a call leaves in lent arrays to worlds: read again, it is `call` of the world that came in. So a theorem over worlds speaks of these calls too. Assumes
 -- nothing.
 use Prim.Native.Nat.{ℕ, zero, suc}
-use mathlib.Core.Path.{◌≡◌, refl, sym, ap, ◌∙◌}
+use mathlib.Core.Path.{◌≡◌, refl, ap, ◌∙◌}
 use mathlib.Core.List.{List, [], ◌∷◌, ◌++◌, map}
-use mathlib.Core.Bool.{Bool, true, false, cond}
+use mathlib.Core.Bool.{false}
 use native.Mathlib.Omega.{arith}
-use lib.ListN.{length, length-map, length-append, take, drop}
+use lib.ListN.{length, length-append, take, drop}
 use lib.Seq.{take_at}
 use Rattle.sorted.specs.Sorted.{laid_on}
 use Rattle.sorted.proofs.Laws.{laid-back}
@@ -20,9 +20,9 @@ use Rattle.world.specs.Calls.{Call}
 use Rattle.world.specs.Refusals.{refuses}
 use Rattle.world.specs.Run.{done, decided, call}
 use Rattle.form.specs.declared.Store.{Store}
-use Rattle.form.specs.Store.{first_of, mem_of, world_of, laid_store, Outcome, called, called_on}
+use Rattle.form.specs.Store.{first_of, mem_of, world_of, laid_store, called_on}
 use Rattle.form.proofs.Arrays.{first_fits, first-laid}
-use Rattle.lent.specs.Lent.{Lent, slot_in, store_of, odd, held_of, own_of, laid_lent, Left, leaving, left_of, called_lent}
+use Rattle.lent.specs.Lent.{Lent, slot_in, store_of, odd, held_of, own_of, laid_lent, Left, left_of, called_lent}
 
 entries-back : (l : List Entry) → map entry_of (map row_of l) ≡ l
 entries-back [] = refl

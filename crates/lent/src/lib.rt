@@ -1,5 +1,7 @@
 // A store that stands where it is lent: a head of numbers by value, and three arrays that are changed in place: the table's rows, the resident pages, the touched
 // pages. specs/Lent.antt reads them as the store that calls are defined over, and says what a call leaves there.
+#![tactic(auto)]
+
 ghost use Rattle.std.specs.Prelude.{◌≡◌, ◌||◌};
 ghost use Rattle.world.specs.Refusals.{front_no};
 ghost use Rattle.form.specs.Store.{world_of};

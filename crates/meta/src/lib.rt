@@ -1,5 +1,7 @@
 // Page 0 and the format check: which counters a database keeps, and whether its version is one of ours. The bytes are told in specs/Page.antt.
 // Every public function is total, and its contract is an equation with a definition of that file.
+#![tactic(auto)]
+
 ghost use Rattle.std.specs.Prelude.{◌≡◌};
 ghost use Rattle.std.proofs.lemmas.List.Edits.{sets};
 ghost use Rattle.fields.specs.Files.{file_of};

@@ -24,7 +24,6 @@ use Rattle.clog.specs.Slots.{clog_magic, code_of, slot_of, valid_clog, open_clog
 use Rattle.clog.proofs.SlotLaws.{slot-within, slot-magic, settled-room, settled-len, settled-header}
 use Rattle.clog.proofs.TableLaws.{known_as, code_or_else, AllFit, fit-by-status, Recorded, record-all, slots-plain, load-status-plain, settled-entries, open_kept, open-reset, open-room, open-valid, valid-long, valid_same}
 use Rattle.meta.specs.Page.{has_meta, format_no}
-use Rattle.frames.specs.Pages as pages
 use Rattle.frames.specs.Pages.{distinct, any_bad}
 use Rattle.world.proofs.CallLaws.{both_zero}
 use Rattle.world.specs.World.{Files, World}

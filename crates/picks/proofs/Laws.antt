@@ -1,14 +1,13 @@
 -- Laws of picked pages: a turn of each loop, and what a pick is. Assumes nothing.
 use mathlib.Core.Path.{◌≡◌, refl, sym, ap, ◌∙◌}
 use mathlib.Core.List.{List, [], ◌∷◌, ◌++◌, append-nil, append_assoc, map}
-use mathlib.Core.Bool.{Bool, true, false, cond, not, ◌||◌}
-use Prim.Native.Nat.{ℕ, zero, suc, ◌+◌, ◌-◌, ◌≤◌, ◌<◌}
+use mathlib.Core.Bool.{Bool, true, false, cond}
+use Prim.Native.Nat.{ℕ, suc, ◌+◌, ◌-◌, ◌≤◌, ◌<◌}
 use native.Mathlib.Numerals.{add-one}
 use native.Mathlib.Omega.{arith}
 use borrow.Author.Tests.{eq-eqb, ne_eqb}
-use lib.Dec.{eqb}
-use lib.ListN.{length, take, drop, get_or, set, replicate, length-append, length-map, length-take, drop_of_length-le}
-use lib.Seq.{drop-cons, take-suc, set_at}
+use lib.ListN.{length, take, get_or, set, replicate, length-append, length-map, length-take}
+use lib.Seq.{take-suc, set_at}
 use Rattle.fields.specs.Answers.{Told}
 use Rattle.frames.specs.Pages.{is_in, slot_of, found_in, place_told}
 use Rattle.frames.specs.declared.Place.{Place}

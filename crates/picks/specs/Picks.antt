@@ -1,6 +1,6 @@
 -- The touched pages that a call deals with: those resident, of these all, the data pages or the catalog pages, in the order of the touched pages, each with
 -- the slot of its frame. Assumes nothing.
-use Rattle.std.specs.Prelude.{ℕ, ◌+◌, ◌-◌, List, ◌++◌, map, Bool, true, not, length, replicate}
+use Rattle.std.specs.Prelude.{ℕ, ◌-◌, List, ◌++◌, map, Bool, true, not, length, replicate}
 use Rattle.frames.specs.Pages.{is_in, slot_of}
 use Rattle.world.specs.Calls.{keep, is_catalog}
 use Rattle.picks.specs.declared.Which.{Which}

@@ -1,5 +1,7 @@
 // Which touched pages a call logs, writes or reverts: those that are resident, of these all, the data pages, or the catalog pages (1, 2 and a list), ascending
 // as they were touched, each with the slot of its frame.
+#![tactic(auto)]
+
 ghost use Rattle.std.specs.Prelude.{◌≡◌, [], ◌<◌, min};
 ghost use Rattle.frames.specs.Pages.{is_in, any_bad, resident_of, touched_of, place_told};
 ghost use Rattle.picks.specs.Picks.{wants, picked_of, seats_of, chosen};

@@ -1,5 +1,5 @@
 -- A plan means the stores of its call, over the page size P. Assumes nothing.
-use mathlib.Core.Path.{◌≡◌, refl, ap, ◌∙◌}
+use mathlib.Core.Path.{◌≡◌, refl, ap}
 use mathlib.Core.List.{List, [], ◌∷◌, ◌++◌, map}
 use mathlib.Core.Bool.{true}
 use Prim.Native.Nat.{ℕ, zero, suc, ◌-◌, ◌≤◌, ◌<◌}
@@ -18,10 +18,9 @@ use Rattle.world.specs.Steps as world
 use Rattle.world.specs.Calls as calls
 use Rattle.world.specs.Calls.{held_page, keep, held, data_pages, images, writes, committed, rolled_back, advanced}
 use Rattle.picks.specs.declared.Which.TheVariants.{All, Data}
-use Rattle.picks.specs.Picks.{chosen, Seat, seat, seats_of, picked_of}
+use Rattle.picks.specs.Picks.{chosen, seat, seats_of, picked_of}
 use Rattle.stores.specs.declared.Kind.{Kind}
 use Rattle.stores.specs.declared.Kind.TheVariants.{Begin, Flush, Commit, Rollback, Advance}
-use Rattle.stores.specs.declared.Plan.{Plan}
 use Rattle.stores.specs.Plans.{meant}
 use Rattle.stores.proofs.MeantLaws.{Lists, begin-meant, flush-meant, commit-meant, rollback-meant, advance-meant}
 use Rattle.plans.specs.Planned.{plan_of, no_counters, timed, marked}

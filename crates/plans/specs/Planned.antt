@@ -1,5 +1,5 @@
 -- The plan of a call, with its pages and their slots in front of the arrays and zeros after them. What a kind of call does not use is 0. Assumes nothing.
-use Rattle.std.specs.Prelude.{ℕ, List}
+use Rattle.std.specs.Prelude.{List}
 use Rattle.fields.specs.declared.TransactionId.{TransactionId}
 use Rattle.fields.specs.declared.CommitTime.{CommitTime}
 use Rattle.fields.specs.Answers.{no_id, no_time}

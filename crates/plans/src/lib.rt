@@ -1,5 +1,7 @@
 // From what a store holds to the plan of a call: which pages it logs and writes, with the slots of their frames, and the counters that page 0 gets.
 // specs/Planned.antt has the plans, proofs/Meanings.antt shows that they mean the stores of the calls.
+#![tactic(auto)]
+
 ghost use Rattle.std.specs.Prelude.{◌≡◌, [], ◌∷◌};
 ghost use Rattle.frames.specs.Pages.{resident_of, touched_of};
 ghost use Rattle.picks.specs.Picks.{chosen, seats_of, seat};

@@ -3,9 +3,8 @@ use Prim.Native.Nat.{ℕ, zero, suc, ◌≤◌, ◌<◌}
 use native.Mathlib.Omega.{arith}
 use mathlib.Core.Path.{◌≡◌, refl}
 use mathlib.Core.List.{List, [], ◌∷◌}
-use lib.ListN.{length, get_or}
+use lib.ListN.{get_or}
 use Rattle.sorted.proofs.Laws.{front, done}
-use Rattle.table.specs.declared.Entry.{Entry}
 use Rattle.table.specs.Entries.{blank}
 use Rattle.world.specs.Refusals.{front_no}
 use Rattle.form.specs.declared.Store.{Store}

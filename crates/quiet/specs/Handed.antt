@@ -2,8 +2,6 @@
 use Rattle.std.specs.Prelude.{ℕ, List, replicate}
 use Rattle.fields.specs.declared.TransactionId.{TransactionId}
 use Rattle.fields.specs.Answers.{no_id}
-use Rattle.frames.specs.Pages.{empty_touched}
-use Rattle.world.specs.declared.Slot.TheVariants.{Empty}
 use Rattle.world.specs.Calls.{Uninstall, AllocId, AllocPage, Read, held_page}
 use Rattle.world.specs.Run.{done}
 use Rattle.form.specs.declared.Held.{Held}

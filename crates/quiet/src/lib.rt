@@ -1,6 +1,8 @@
 // The calls that have no stores: install, uninstall, allocate an id or a page, read and write a page. Each takes the store, the four buffers and its own arguments,
 // tests 1 and 14 first, and hands back a number and the store; a refusal hands back the old store and changes no buffer. Every public function is total: its
 // contract is one equation with a call of specs, which says the answer, the store and every byte of the buffers. Two more tell the table's entries and change nothing.
+#![tactic(auto)]
+
 ghost use Rattle.std.specs.Prelude.{◌≡◌, true, cond, ◌+◌, ◌*◌, ◌<◌, max};
 ghost use Rattle.std.proofs.lemmas.List.Edits.{sets};
 ghost use Rattle.fields.specs.Files.{file_of};

@@ -1,5 +1,7 @@
 // The log reader: a struct that holds the log, its length and a place in it, and thin functions over it. What is done of the log is done by wal's
 // functions and by `after`. The functions over plain slices at the end are for callers that want no reader of their own.
+#![tactic(auto)]
+
 ghost use Rattle.std.specs.Prelude.{◌≡◌};
 ghost use Rattle.fields.specs.Files.{file_of};
 ghost use Rattle.wal.specs.Reading.{read_told, read_in, start_in, IsImage};

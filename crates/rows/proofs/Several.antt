@@ -7,7 +7,7 @@ use mathlib.Core.Path.{◌≡◌, refl, sym, ap, ◌∙◌}
 use mathlib.Core.List.{List, [], ◌∷◌, ◌++◌, map}
 use mathlib.Core.Bool.{Bool, true, false, cond}
 use lib.ListN.{length, length-map, length-take, take, drop, get_or, set}
-use lib.Dec.{ltb, leb, eqb}
+use lib.Dec.{ltb, eqb}
 use borrow.Author.Tests.{le-leb, lt-leb, ne_eqb, lt-ltb, ltb-true}
 use Rattle.fields.proofs.Tests.{Order, less, most, order}
 use Rattle.sorted.specs.Sorted.{laid_on, insert_by, insert_all_by, ascending_by}

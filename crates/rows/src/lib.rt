@@ -1,5 +1,7 @@
 // The status table where it stands: 256 rows of three numbers, lent as one array, and a count. A row is an id, a tag and a time; a tag is 0 for Active, 1 for
 // Committed, 2 for Aborted, and the time is 0 where the tag is not 1. Only this crate goes into a row: what it takes and gives are ids, statuses and times.
+#![tactic(auto)]
+
 ghost use Rattle.std.specs.Prelude.{◌≡◌, ◌≤◌, ◌<◌, ◌+◌, ◌-◌, min, max, [], ◌∷◌, ◌++◌, map, ◌||◌, take, drop, get_or};
 ghost use Rattle.sorted.specs.Sorted.{laid_on};
 ghost use Rattle.table.specs.Entries.{list_of, status_of, largest_by, largest_id, largest_time};

@@ -1,5 +1,7 @@
 // Resident pages and touched pages where they stand: two lent arrays of 64 numbers, of which the first n are held. What seating and marking a page do is what
 // crate frames says of its values; here the arrays are changed in place. No function trusts the count that it is given.
+#![tactic(auto)]
+
 ghost use Rattle.std.specs.Prelude.{◌≡◌, ◌≤◌, ◌<◌, ◌+◌, ◌-◌, min, ◌∷◌, ◌++◌, ◌||◌, length, take, drop, eqb};
 ghost use Rattle.std.proofs.lemmas.List.Edits.{sets};
 ghost use Rattle.frames.specs.Pages.{is_in, ascending, any_bad, frame_count, found_in, place_told, seated, marked, touched_formed};

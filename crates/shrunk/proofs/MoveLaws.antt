@@ -2,21 +2,20 @@
 -- Assumes nothing.
 use mathlib.Core.Path.{◌≡◌, refl, sym, ap, ◌∙◌}
 use mathlib.Core.List.{List, [], ◌∷◌, ◌++◌, append_assoc}
-use mathlib.Core.Bool.{Bool, true, false, not, ◌||◌}
-use Prim.Native.Nat.{ℕ, zero, suc, ◌+◌, ◌-◌, ◌*◌, ◌/◌, ◌%◌, ◌^◌, ◌≤◌, ◌<◌, min}
+use mathlib.Core.Bool.{true, false, not}
+use Prim.Native.Nat.{ℕ, ◌+◌, ◌-◌, ◌*◌, ◌/◌, ◌%◌, ◌≤◌, ◌<◌, min}
 use native.Mathlib.Omega.{arith}
 use lib.Dec.{eqb}
-use lib.ListN.{length, take, drop, get_or, replicate, length-append, length-take, length-drop, length-replicate, take-append-drop, get_or-append, get_or-replicate}
+use lib.ListN.{length, take, drop, get_or, replicate, length-append, length-drop, length-replicate, take-append-drop, get_or-append, get_or-replicate}
 use lib.Seq.{drop_at, get_or-append-add, get_or-drop, length-take-le}
 use borrow.Author.Tests.{eqb-true, not-false}
 use Rattle.fields.specs.Bytes.{starts, Bytes}
-use Rattle.fields.proofs.Tests.{Order, less, most, order, neither}
+use Rattle.fields.proofs.Tests.{neither}
 use Rattle.fields.proofs.Stored.{starts-means}
-use Rattle.table.specs.declared.Entry.{Entry}
-use Rattle.clog.specs.Slots.{clog_magic, bits_of, slot_of, codes, entries_from, entries_in}
+use Rattle.clog.specs.Slots.{clog_magic, slot_of, entries_in}
 use Rattle.clog.proofs.FourSlots.{bits-zero}
 use Rattle.clog.proofs.ZeroLaws.{entries-zeros}
-use Rattle.shrunk.specs.Form.{second_form, base_of, base_under, to_second, to_first, any_nonzero}
+use Rattle.shrunk.specs.Form.{base_of, base_under, to_second, to_first, any_nonzero}
 use Rattle.shrunk.proofs.FormLaws.{Fits, length-form, form-packed, form-base, form_of, form-fits}
 
 pub magic-long : length clog_magic ≡ 8

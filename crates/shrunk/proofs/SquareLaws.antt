@@ -1,15 +1,15 @@
 -- The same call in both forms: record, compact and load on a file g of the second form and on a file o that holds its old form leave two such files again. And
 -- what each leaves of the header: a file that fits, with the same base. Assumes nothing.
 use mathlib.Core.Path.{◌≡◌, refl, sym, ap, ◌∙◌}
-use mathlib.Core.List.{List, [], ◌∷◌, ◌++◌, map}
-use Prim.Native.Nat.{ℕ, zero, suc, ◌+◌, ◌-◌, ◌*◌, ◌/◌, ◌%◌, ◌^◌, ◌≤◌, ◌<◌, max}
+use mathlib.Core.List.{List, ◌++◌, map}
+use Prim.Native.Nat.{ℕ, ◌+◌, ◌-◌, ◌*◌, ◌/◌, ◌%◌, ◌≤◌, ◌<◌, max}
 use native.Mathlib.Omega.{arith}
-use lib.ListN.{length, take, drop, get_or, replicate, length-append, length-take, length-drop, take-append-drop}
-use lib.Seq.{sets, length-sets, sets-eq, ext_get_or, get_or-drop, get_or-take, drop-drop, take-take, take_at, length-take-le}
+use lib.ListN.{length, take, drop, get_or, replicate, take-append-drop}
+use lib.Seq.{sets, length-sets, sets-eq, ext_get_or, get_or-drop, get_or-take, take-take, take_at}
 use Rattle.fields.specs.Bytes.{be_of, big_bytes, big_field}
-use Rattle.fields.specs.Files.{File, file_of, content, room}
+use Rattle.fields.specs.Files.{File, content, room}
 use Rattle.fields.proofs.Tests.{Order, less, most, order, Equal, equal, other, equality}
-use Rattle.fields.proofs.Lists.{drop-take, part-front}
+use Rattle.fields.proofs.Lists.{drop-take}
 use Rattle.fields.proofs.Stored.{past-sets}
 use Rattle.fields.proofs.BigLaws.{length-big_bytes, be_of-big_bytes}
 use Rattle.fields.proofs.FileLaws.{content-length}
@@ -18,7 +18,7 @@ use Rattle.clog.proofs.SlotLaws.{record-len, record-fit, record-at, record-off, 
 use Rattle.clog.proofs.ZeroLaws.{cleared-zeros, settled-zeros}
 use Rattle.shrunk.specs.Form.{base_of, to_first}
 use Rattle.shrunk.specs.Calls.{relength}
-use Rattle.shrunk.proofs.FormLaws.{Fits, base-front, base_same, fits-same}
+use Rattle.shrunk.proofs.FormLaws.{Fits, base_same}
 use Rattle.shrunk.proofs.MoveLaws.{magic-long, length-first, first_body, first-front, first-packed}
 
 -- an id's slot set in a file of the second form, its stated length not yet

@@ -11,33 +11,33 @@
 --   a load keeps length and base                                                                                  load-keeps
 -- A file of the second form is bytes below 256, which in the code the type says. Assumes nothing.
 use mathlib.Core.Path.{◌≡◌, refl, sym, ap, ◌∙◌}
-use mathlib.Core.List.{List, [], ◌∷◌, ◌++◌}
-use mathlib.Core.Bool.{Bool, true, false, cond}
-use Prim.Native.Nat.{ℕ, zero, suc, ◌+◌, ◌-◌, ◌*◌, ◌/◌, ◌%◌, ◌≤◌, ◌<◌, min, max}
+use mathlib.Core.List.{List}
+use mathlib.Core.Bool.{false, cond}
+use Prim.Native.Nat.{ℕ, ◌+◌, ◌-◌, ◌/◌, ◌%◌, ◌≤◌, ◌<◌}
 use native.Mathlib.Omega.{arith}
-use lib.Dec.{ltb, lit<}
+use lib.Dec.{lit<}
 use lib.ListN.{length, take, drop, length-drop}
-use lib.Seq.{sets, sets-eq, take_at, length-take-le}
+use lib.Seq.{sets-eq, take_at, length-take-le}
 use Rattle.fields.specs.declared.Answer.TheVariants.{Accepted}
 use Rattle.fields.specs.Bytes.{Bytes, big_field}
 use Rattle.fields.specs.Files as files
 use Rattle.fields.specs.Files.{File, file_of, content, room}
-use Rattle.fields.specs.Answers.{Outcome, outcome, decided}
+use Rattle.fields.specs.Answers.{Outcome, outcome}
 use Rattle.fields.proofs.Tests.{passed}
 use Rattle.fields.proofs.FileLaws as file-laws
 use Rattle.fields.proofs.FileLaws.{content-length}
 use Rattle.table.specs.declared.Table.{Table}
 use Rattle.table.specs.Entries.{status_of, empty_table, laid}
-use Rattle.clog.specs.Slots.{slot_of, set_slot, clear_slots, entries_in, in_use, settled}
-use Rattle.clog.specs.Calls.{unfit, record_no, compact_no, load_no, recorded, compacted, LoadOutcome, load_outcome, table_by, load_decided, loaded}
+use Rattle.clog.specs.Slots.{slot_of, clear_slots, entries_in, in_use, settled}
+use Rattle.clog.specs.Calls.{record_no, load_no, recorded, compacted, LoadOutcome, load_outcome, table_by, load_decided, loaded}
 use Rattle.clog.proofs.Codes.{many}
 use Rattle.clog.proofs.Refusals.{fit-ok, record-fits, compact-fits, load_fits}
 use Rattle.clog.proofs.SlotLaws.{record-len, record-fit, record-header, compact-len, compact-room, compact-header, settled-len, settled-room, settled-header}
 use Rattle.clog.proofs.Theorems.{accepted-file, recorded-file, compacted-file, loaded-file}
 use Rattle.shrunk.specs.Form.{base_of, misfits, base_under, to_second, to_first}
 use Rattle.shrunk.specs.Calls.{second_no, form_no, first_no, written, moved_second, moved_first, relength, recorded_second, compacted_second, loaded_second}
-use Rattle.shrunk.proofs.FormLaws.{Fits, fits-means, fits-ok, base_same, fits-same}
-use Rattle.shrunk.proofs.MoveLaws.{length-first, second_fits, second-base, old-back, second_back, slot-below, slot-above, entries-same}
+use Rattle.shrunk.proofs.FormLaws.{fits-means, fits-ok, base_same, fits-same}
+use Rattle.shrunk.proofs.MoveLaws.{length-first, second_fits, old-back, second_back, slot-below, slot-above, entries-same}
 use Rattle.shrunk.proofs.SquareLaws.{slotted, relength-len, relength-base, relength-states, relength-fits, compact-square, settled-square, record-square}
 use Rattle.shrunk.proofs.Ways.{second-means, first-means}
 

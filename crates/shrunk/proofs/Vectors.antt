@@ -7,10 +7,10 @@ use Rattle.fields.specs.Bytes.{le_of, bytes_of, be_of, big_bytes, starts}
 use Rattle.fields.specs.Files as files
 use Rattle.fields.specs.Files.{File, file_of, lay}
 use Rattle.fields.specs.Answers.{Outcome, decided}
-use Rattle.clog.specs.Slots.{clog_magic, bits_of, with_bits, high_bits, set_slot, cleared, clear_slots, codes, loaded_status, entry_of, entries_from, entries_in, in_use, settled_code, settled_byte, settled}
-use Rattle.clog.specs.Calls.{unfit, record_no, load_no, LoadOutcome, table_by, load_decided}
+use Rattle.clog.specs.Slots.{clog_magic, with_bits, high_bits, set_slot, cleared, clear_slots}
+use Rattle.clog.specs.Calls.{unfit, record_no}
 use Rattle.shrunk.specs.Form.{second_header, second_form, base_of, misfits, base_under, to_second, to_first, any_nonzero}
-use Rattle.shrunk.specs.Calls.{second_no, form_no, first_no, written, moved_second, moved_first, relength, recorded_second, compacted_second, loaded_second}
+use Rattle.shrunk.specs.Calls.{second_no, form_no, first_no, written, moved_second, moved_first, relength, recorded_second, compacted_second}
 
 abbrev whole : List ℕ → File
 whole xs = file_of xs (length xs)

@@ -1,20 +1,20 @@
 -- What the functions' proofs cite: one law for each way out. Assumes nothing.
 use mathlib.Core.Path.{◌≡◌, refl, sym, ap, ◌∙◌}
-use mathlib.Core.List.{List, [], ◌∷◌, ◌++◌, append_assoc}
-use mathlib.Core.Bool.{Bool, true, false, cond, not, ◌||◌}
-use Prim.Native.Nat.{ℕ, zero, suc, ◌+◌, ◌-◌, ◌*◌, ◌/◌, ◌%◌, ◌^◌, ◌≤◌, ◌<◌, min, max}
+use mathlib.Core.List.{List, ◌∷◌, ◌++◌, append_assoc}
+use mathlib.Core.Bool.{Bool, true, false, cond, not}
+use Prim.Native.Nat.{ℕ, zero, suc, ◌+◌, ◌-◌, ◌/◌, ◌≤◌, ◌<◌, min}
 use native.Mathlib.Numerals.{add-one}
 use native.Mathlib.Omega.{arith}
-use lib.Dec.{ltb, leb, eqb, lit<}
+use lib.Dec.{ltb, lit<}
 use lib.ListN.{length, take, drop, get_or, set, replicate, length-append, length-drop, length-replicate, drop_of_length-le}
 use lib.Seq.{sets, drop-cons, drop-drop, take-take}
-use borrow.Author.Tests.{lt-ltb, le-ltb, eq-eqb, ne_eqb, ltb-false, not-true}
+use borrow.Author.Tests.{lt-ltb, le-ltb, eq-eqb, ne_eqb, ltb-false}
 use Rattle.fields.specs.declared.Answer.{Answer}
 use Rattle.fields.specs.declared.Answer.TheVariants.{Accepted, Refused}
 use Rattle.fields.specs.Bytes.{starts, big_bytes, big_field}
 use Rattle.fields.specs.Files as files
 use Rattle.fields.specs.Files.{File, file_of, content, room}
-use Rattle.fields.specs.Answers.{length_of, Outcome, outcome, decided}
+use Rattle.fields.specs.Answers.{length_of, outcome, decided}
 use Rattle.fields.proofs.Tests.{passed}
 use Rattle.fields.proofs.Lists.{drop-take}
 use Rattle.fields.proofs.FileLaws as file-laws
@@ -23,11 +23,10 @@ use Rattle.fields.proofs.Stored.{laid_next}
 use Rattle.fields.proofs.BigLaws.{length-big_bytes}
 use Rattle.fields.proofs.AnswerLaws.{outcome-refused, outcome-accepted}
 use Rattle.table.specs.declared.Table.{Table}
-use Rattle.table.specs.declared.Entry.{Entry}
 use Rattle.table.specs.Entries.{empty_table}
 use Rattle.clog.specs.declared.Loaded.{Loaded}
-use Rattle.clog.specs.Slots.{clog_magic, set_slot, clear_slots, entries_in, settled}
-use Rattle.clog.specs.Calls.{unfit, record_no, compact_no, load_no, recorded, compacted, LoadOutcome, load_outcome, table_by, load_decided, loaded}
+use Rattle.clog.specs.Slots.{clog_magic, set_slot, entries_in, settled}
+use Rattle.clog.specs.Calls.{unfit, record_no, compact_no, load_no, recorded, compacted, load_outcome, table_by, loaded}
 use Rattle.clog.proofs.Refusals.{not-0, fit-means, compact-ok, record-fits}
 use Rattle.clog.proofs.Ways.{load-made}
 use Rattle.clog.proofs.SlotLaws.{record-len}
@@ -35,7 +34,7 @@ use Rattle.clog.proofs.Theorems.{answer-accepted, answer-refused}
 use Rattle.shrunk.specs.Form.{second_header, second_form, base_of, misfits, base_under, to_second, to_first, any_nonzero}
 use Rattle.shrunk.specs.Calls.{second_no, form_no, first_no, written, moved_second, moved_first, relength, recorded_second, compacted_second, loaded_second}
 use Rattle.shrunk.specs.Inside.{bad_base}
-use Rattle.shrunk.proofs.FormLaws.{Fits, fits-means, length-header}
+use Rattle.shrunk.proofs.FormLaws.{fits-means, length-header}
 use Rattle.shrunk.proofs.MoveLaws.{length-second, length-first, magic-long, under-within}
 
 -- ---- does a file fit

@@ -6,7 +6,7 @@
 --   "22 .., 23 .., 24 recording below the base, 13 an output too short; 23 first, 13 last"            second_no, first_no, form_no, clog's record_no
 -- As in every clog call 1 comes before these: a buffer over 1,048,576 bytes, a length over its buffer, an old form under 8 bytes. An output is a plain slice, but
 -- no old form has more than 1,048,576 bytes: a longer one gives 13. Assumes nothing.
-use Rattle.std.specs.Prelude.{ℕ, ◌+◌, ◌-◌, ◌/◌, min, List, cond, not, length, take, drop, ltb}
+use Rattle.std.specs.Prelude.{ℕ, ◌-◌, ◌/◌, min, List, cond, not, length, take, drop, ltb}
 use Rattle.std.proofs.lemmas.List.Edits.{sets}
 use Rattle.fields.specs.Bytes.{starts, big_bytes}
 use Rattle.fields.specs.Files as files

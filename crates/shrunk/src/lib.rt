@@ -1,6 +1,8 @@
 // The second form of a clog, which leaves out the slots below a base: a clog moved there and back between lent slices, and record, compact and load in a file of
 // that form. Every public function is total; its contract is one equation with a definition of specs/Calls.antt. A store opens the old form only: an opening that
 // is given the second one finds another magic and resets it, and the statuses are gone.
+#![tactic(auto)]
+
 ghost use Rattle.std.specs.Prelude.{◌≡◌, false, ◌+◌, ◌*◌, ◌/◌, ◌%◌, ◌≤◌, min, length};
 ghost use Rattle.std.proofs.lemmas.List.Edits.{sets};
 ghost use Rattle.fields.specs.Files.{file_of};

@@ -1,11 +1,11 @@
 -- A plan's stores in the terms of the store as lists, kind by kind, and stores carried out in two parts. P is the page size. Assumes nothing.
-use mathlib.Core.Path.{◌≡◌, refl, sym, ap, ap₂, ◌∙◌}
+use mathlib.Core.Path.{◌≡◌, refl, ap, ap₂, ◌∙◌}
 use mathlib.Core.List.{List, [], ◌∷◌, ◌++◌, map}
-use mathlib.Core.Bool.{Bool, true, false, cond, ◌||◌}
-use Prim.Native.Nat.{ℕ, zero, suc, ◌+◌, ◌-◌, ◌≤◌, ◌<◌, min}
+use mathlib.Core.Bool.{cond}
+use Prim.Native.Nat.{ℕ, zero, suc, ◌+◌, ◌≤◌, ◌<◌, min}
 use native.Mathlib.Omega.{arith}
 use lib.ListN.{length, take, drop, get_or}
-use Rattle.wal.specs.Records.{image, begin, commit, abort, checkpoint}
+use Rattle.wal.specs.Records.{begin, commit, abort, checkpoint}
 use Rattle.table.specs.declared.Status.TheVariants.{Active, Committed, Aborted}
 use Rattle.meta.specs.declared.Counters.{Counters}
 use Rattle.meta.specs.Page.{meta_page}
@@ -21,10 +21,9 @@ use Rattle.fields.proofs.Tests.{passed, neither}
 use Rattle.stores.specs.Room.{form_no, number_for}
 use lib.Dec.{ltb, lit<}
 use Rattle.stores.specs.declared.Plan.{Plan}
-use Rattle.stores.specs.declared.Kind.{Kind}
 use Rattle.stores.specs.declared.Kind.TheVariants.{Nothing, Begin, Flush, Commit, Rollback, Advance}
 use Rattle.stores.specs.declared.Step.{Step}
-use Rattle.stores.specs.Plans.{tabulate, image_step, page_step, meta_step, closing, begin_steps, flush_steps, commit_steps, data_steps, rollback_steps, advance_steps, kind_steps, steps_of, meaning, meant}
+use Rattle.stores.specs.Plans.{tabulate, image_step, page_step, meta_step, closing, begin_steps, flush_steps, commit_steps, data_steps, rollback_steps, advance_steps, meaning, meant}
 use Rattle.stores.proofs.PlanLaws.{by_kind}
 
 map-append : {A B : Type 0} (g : A → B) (xs ys : List A) → map g (xs ++ ys) ≡ map g xs ++ map g ys

@@ -1,7 +1,7 @@
 -- Laws of a plan's list of stores: how many there are, and which stands at each place. Assumes nothing.
-use mathlib.Core.Path.{◌≡◌, refl, sym, ap, ◌∙◌}
+use mathlib.Core.Path.{◌≡◌, refl, ap, ◌∙◌}
 use mathlib.Core.List.{List, [], ◌∷◌, ◌++◌, append_assoc}
-use Prim.Native.Nat.{ℕ, zero, suc, ◌+◌, ◌-◌, ◌*◌, ◌≤◌, ◌<◌, min}
+use Prim.Native.Nat.{ℕ, zero, suc, ◌+◌, ◌*◌, ◌≤◌, ◌<◌, min}
 use native.Mathlib.Nat.{not-suc-le-zero, le_of_suc-le-suc}
 use native.Mathlib.Omega.{arith}
 use lib.ListN.{length, get_or, length-append, get_or-append, get_or-eq_default}
@@ -10,8 +10,7 @@ use Rattle.stores.specs.declared.Plan.{Plan}
 use Rattle.stores.specs.declared.Kind.{Kind}
 use Rattle.stores.specs.declared.Kind.TheVariants.{Nothing, Begin, Flush, Commit, Rollback, Advance}
 use Rattle.stores.specs.declared.Step.{Step}
-use Rattle.stores.specs.declared.Step.TheVariants.{LogImage, LogBegin, LogCommit, LogAbort, LogCheckpoint, WritePage, WriteMeta, SetSlot, Compact, Truncate}
-use Rattle.table.specs.declared.Status.TheVariants.{Active, Committed, Aborted}
+use Rattle.stores.specs.declared.Step.TheVariants.{LogCommit, LogCheckpoint, Truncate}
 use Rattle.stores.specs.Plans.{tabulate, image_step, page_step, meta_step, closing, begin_steps, flush_steps, commit_steps, data_steps, rollback_steps, advance_steps, kind_steps, steps_of}
 
 -- ---- runs of pages

@@ -1,16 +1,16 @@
 -- Several stores: their room, and carrying them out one by one. P is the page size. Assumes nothing.
-use mathlib.Core.Path.{◌≡◌, refl, sym, ap, ap₂, ◌∙◌}
-use mathlib.Core.List.{List, [], ◌∷◌, ◌++◌, map}
-use mathlib.Core.Bool.{Bool, true, false, cond}
+use mathlib.Core.Path.{◌≡◌, refl, sym, ap, ◌∙◌}
+use mathlib.Core.List.{List, [], ◌∷◌, map}
+use mathlib.Core.Bool.{Bool, true, false}
 use Prim.Native.Nat.{ℕ, zero, suc, ◌+◌, ◌-◌, ◌*◌, ◌≤◌, ◌<◌, min, max}
 use native.Mathlib.Nat.{not-suc-le-zero, le_of_suc-le-suc}
 use native.Mathlib.Numerals.{add-one}
 use native.Mathlib.Omega.{arith}
 use borrow.Author.Tests.{ltb-true, ltb-false}
 use lib.Dec.{ltb, lit<}
-use lib.ListN.{length, take, drop, get_or, length-map, length-append, get_or-map, drop_of_length-le}
+use lib.ListN.{length, take, drop, get_or, length-map, get_or-map, drop_of_length-le}
 use lib.Seq.{drop-cons, take-nil}
-use Rattle.fields.specs.Files.{File, room, unfit}
+use Rattle.fields.specs.Files.{room, unfit}
 use Rattle.fields.proofs.Tests.{passed}
 use Rattle.fields.proofs.FileLaws.{fit-means}
 use Rattle.wal.specs.Records.{encode}
@@ -20,7 +20,7 @@ use Rattle.frames.specs.Copies.{frame_of}
 use Rattle.frames.proofs.CopyLaws.{length-frame}
 use Rattle.world.proofs.CallLaws.{both_zero}
 use Rattle.world.specs.declared.Lens.{Lens}
-use Rattle.world.specs.World.{Files, files_of, lens_of}
+use Rattle.world.specs.World.{Files, lens_of}
 use Rattle.world.specs.Steps as world
 use Rattle.world.specs.Steps.{apply, apply_all, log_bytes, db_end, clog_end, sum_of, most_of}
 use Rattle.world.specs.Refusals.{or_else, room_no}
@@ -29,9 +29,8 @@ use Rattle.stores.specs.declared.Plan.{Plan}
 use Rattle.stores.specs.declared.Step.{Step}
 use Rattle.stores.specs.declared.Step.TheVariants.{LogImage, LogBegin, LogCommit, LogAbort, LogCheckpoint, WritePage, WriteMeta, SetSlot, Compact, Truncate}
 use Rattle.stores.specs.declared.Needs.{Needs}
-use Rattle.stores.specs.declared.Cut.{Cut}
 use Rattle.stores.specs.Plans.{steps_of, meaning, meant}
-use Rattle.stores.specs.Room.{form_no, number_for, Carried, cut_of, carried}
+use Rattle.stores.specs.Room.{form_no, number_for, Carried, carried}
 use Rattle.stores.specs.Inside.{needing, needs_of, cost_of, short_no, Enough}
 use Rattle.stores.proofs.StepLaws.{enough-here, enough-next}
 

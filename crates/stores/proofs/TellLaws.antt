@@ -2,17 +2,15 @@
 -- Assumes nothing.
 use mathlib.Core.Path.{◌≡◌, refl, sym, ap, ap₂, ◌∙◌}
 use mathlib.Core.List.{List, [], ◌∷◌, map}
-use mathlib.Core.Bool.{cond}
-use Prim.Native.Nat.{ℕ, zero, suc, ◌+◌, ◌-◌, ◌*◌, ◌/◌, ◌≤◌, ◌<◌, max}
+use Prim.Native.Nat.{ℕ, suc, ◌+◌, ◌-◌, ◌*◌, ◌/◌, ◌≤◌, ◌<◌, max}
 use native.Mathlib.Numerals.{add-one}
 use native.Mathlib.Omega.{arith}
 use borrow.Author.Tests.{le-ltb, lt-ltb}
-use lib.Dec.{ltb}
 use lib.ListN.{length, drop, get_or, drop_of_length-le}
 use lib.Seq.{drop-cons}
 use Rattle.fields.specs.Files.{lay, header}
-use Rattle.fields.proofs.FileLaws.{lay-len, header-len}
-use Rattle.wal.specs.Records.{Record, image, begin, commit, abort, checkpoint, encode, log_magic}
+use Rattle.fields.proofs.FileLaws.{lay-len}
+use Rattle.wal.specs.Records.{image, begin, commit, abort, checkpoint, encode, log_magic}
 use Rattle.wal.proofs.WriteLaws.{id-size, commit-size, page-size}
 use Rattle.clog.specs.Slots.{span_below, set_slot, clear_slots}
 use Rattle.meta.proofs.Laws.{length-meta}
@@ -20,7 +18,6 @@ use Rattle.frames.specs.Copies.{frame_of}
 use Rattle.frames.proofs.CopyLaws.{length-frame}
 use Rattle.world.specs.declared.Lens.{Lens}
 use Rattle.world.specs.World.{Files, files_of}
-use Rattle.world.specs.Steps as world
 use Rattle.world.specs.Steps.{apply, tell, tell_all, telling}
 use Rattle.stores.specs.declared.Plan.{Plan}
 use Rattle.stores.specs.declared.Telling.{Telling}

@@ -9,7 +9,6 @@ use Rattle.stores.specs.declared.Step.TheVariants.{LogImage, LogBegin, LogCommit
 use Rattle.stores.specs.declared.Needs.{Needs}
 use Rattle.clog.specs.Slots.{span_below}
 use Rattle.world.specs.declared.Lens.{Lens}
-use Rattle.stores.specs.declared.Telling.{Telling}
 
 -- bytes appended to the log, and the furthest end in database and clog: of stores, and of one store of a plan
 abbrev pub needing : ℕ → ℕ → ℕ → Needs

@@ -9,7 +9,6 @@ use Rattle.world.specs.Steps as world
 use Rattle.world.specs.Steps.{apply_all}
 use Rattle.world.specs.Refusals.{or_else, room_no}
 use Rattle.world.specs.Run.{decided}
-use Rattle.stores.specs.declared.Step.{Step}
 use Rattle.stores.specs.declared.Cut.{Cut}
 
 -- ---- the numbers

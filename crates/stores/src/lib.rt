@@ -1,5 +1,7 @@
 // A call is planned into a small value, and its stores are carried out on the three files one after another, as far as is asked.
 // specs/Plans.antt tells which stores a plan has and what they mean. Every public function is total: its contract is one equation.
+#![tactic(auto)]
+
 ghost use Rattle.std.specs.Prelude.{◌≡◌, [], ◌∷◌, ◌+◌, ◌-◌, ◌*◌, ◌<◌, ◌≤◌, length, take, drop, get_or};
 ghost use Rattle.std.proofs.lemmas.List.Edits.{sets};
 ghost use Rattle.fields.specs.Bytes.{part};

@@ -4,11 +4,10 @@ use native.Mathlib.Nat.{add-zero}
 use native.Mathlib.Omega.{arith}
 use mathlib.Core.Path.{◌≡◌, refl, sym, ap, ◌∙◌}
 use mathlib.Core.List.{List, [], ◌∷◌, ◌++◌, map}
-use mathlib.Core.Bool.{Bool, true, false, cond}
+use mathlib.Core.Bool.{true, false}
 use lib.ListN.{length, take, drop, get_or, set, length-take, drop_of_length-le}
 use lib.Seq.{drop-cons, drop-drop, length-take-le, sets, slice, get_or-take}
-use lib.Dec.{eqb}
-use borrow.Author.Tests.{eq-eqb, ne_eqb, eqb-true, eqb-false}
+use borrow.Author.Tests.{eq-eqb, ne_eqb}
 use Rattle.fields.proofs.Tests.{Order, less, most, order, Equal, equal, other, equality}
 use Rattle.fields.specs.Files.{File, file_of, content, room, unfit}
 use Rattle.sorted.proofs.Laws.{take_min}
@@ -16,7 +15,7 @@ use Rattle.table.specs.declared.Entry.{Entry}
 use Rattle.rows.specs.Rows.{Rowed, rowed_as, held_row, set_all}
 use Rattle.clog.specs.Slots.{bits_of, codes, entry_of, entries_from, entries_in, valid_clog, loaded_status, settled_code, settled_byte, settled}
 use Rattle.clog.proofs.ZeroLaws.{entries-zeros}
-use Rattle.clog.proofs.Ways.{settle-turn, settle-end}
+use Rattle.clog.proofs.Ways.{settle-turn}
 use Rattle.opening.proofs.Tables.{clog-none, clog-held}
 use Rattle.sweeps.specs.Sweeps.{listed}
 use Rattle.sweeps.specs.Inside.{zeros, busy_from, in_byte, next_from}

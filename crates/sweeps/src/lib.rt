@@ -1,5 +1,7 @@
 // A clog gone over with its zero bytes passed eight at a time: its entries listed in rows, specs/Sweeps.antt, and Active become Aborted in the file.
 // Every public function is total: its contract is one equation.
+#![tactic(auto)]
+
 ghost use Rattle.std.specs.Prelude.{◌≡◌, map, ◌+◌, ◌≤◌, ◌<◌, ◌^◌, length, take, drop};
 ghost use Rattle.std.proofs.lemmas.List.Edits.{sets};
 ghost use Rattle.fields.specs.Files.{file_of};

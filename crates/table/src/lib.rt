@@ -1,5 +1,7 @@
 // The status table: at most 256 entries, ids strictly ascending. A table goes in by value and comes back. Every public function is total:
 // its contract is an equation with a definition of specs/Entries.antt.
+#![tactic(auto)]
+
 ghost use Rattle.std.specs.Prelude.{◌≡◌, ◌≤◌, ◌<◌, ◌+◌, ◌-◌, min, max, ◌∷◌, ◌++◌, take, drop};
 ghost use Rattle.table.specs.Entries.{empty_table, list_of, inserted, overlaid, status_of, well_formed, settled_status, settled_entry, settled_table, largest_by, largest_id, largest_time, time_of, next64};
 ghost use Rattle.table.specs.Inside.{number_of, place_of};

@@ -1,5 +1,7 @@
 // The log's records: reader and writer. A log is a lent buffer and a length; what its bytes mean stands in specs/Records.antt, what the reader
 // answers in specs/Reading.antt, what the writer does in specs/Writing.antt. Every public function is total.
+#![tactic(auto)]
+
 ghost use Rattle.std.specs.Prelude.{◌≡◌, ◌∷◌, ◌++◌, true, false, ◌+◌, ◌≤◌, ◌<◌, length, take, drop, eqb};
 ghost use Rattle.std.proofs.lemmas.List.Edits.{sets};
 ghost use Rattle.fields.specs.Bytes.{bytes_of};

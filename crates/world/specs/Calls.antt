@@ -9,23 +9,21 @@
 -- checkpoint and truncation, only if there are any; meta. Touched resident catalog pages get the file's bytes back in their frames, or zeros past its end.
 -- Advancing the mark: nothing if it is not above the old one; else compaction and meta.
 -- Writing meta writes page 0's frame first, as writing a page does.
-use Rattle.std.specs.Prelude.{ℕ, zero, suc, ◌+◌, ◌-◌, ◌*◌, max, List, [], ◌∷◌, ◌++◌, Bool, true, false, cond, not, ◌||◌, length, ltb, eqb}
-use Rattle.std.proofs.lemmas.List.Edits.{sets}
+use Rattle.std.specs.Prelude.{ℕ, ◌+◌, max, List, [], ◌∷◌, ◌++◌, Bool, cond, not, ◌||◌, length, ltb, eqb}
 use Rattle.fields.specs.declared.TransactionId.{TransactionId}
 use Rattle.fields.specs.declared.CommitTime.{CommitTime}
 use Rattle.fields.specs.Bytes.{part}
 use Rattle.fields.specs.Files.{File}
-use Rattle.wal.specs.Records.{Record, image, begin, commit, abort, checkpoint}
+use Rattle.wal.specs.Records.{image, begin, commit, abort, checkpoint}
 use Rattle.table.specs.declared.Status.{Status}
 use Rattle.table.specs.declared.Status.TheVariants.{Active, Committed, Aborted}
-use Rattle.table.specs.declared.Entry.{Entry}
 use Rattle.table.specs.Entries.{insert_entry, next64}
 use Rattle.meta.specs.Page.{meta_page}
 use Rattle.frames.specs.Pages.{is_in, slot_of, with_page, touch}
 use Rattle.frames.specs.Copies.{page_of, frame_of, with_frame}
 use Rattle.world.specs.declared.Slot.{Slot}
 use Rattle.world.specs.declared.Slot.TheVariants.{Installed, Empty}
-use Rattle.world.specs.World.{Files, Mem, World, with_mem, with_counts, with_table, with_resident, with_transaction}
+use Rattle.world.specs.World.{Mem, World, with_mem, with_counts, with_table, with_resident, with_transaction}
 use Rattle.world.specs.Steps.{Step, Log, Page, SetSlot, Compact, Truncate, apply_all}
 
 pub data Call : Type 0 where

@@ -8,15 +8,15 @@
 --   4, 5, 6  log, database, clog would outgrow its buffer, all stores of the call counted
 --   7   table would pass 256 entries
 --   8   a frame is needed and all are taken
-use Rattle.std.specs.Prelude.{ℕ, zero, suc, ◌+◌, List, [], ◌∷◌, Bool, true, false, cond, not, ◌||◌, length, ltb, leb, eqb}
-use Rattle.fields.specs.Files.{File, room, unfit}
+use Rattle.std.specs.Prelude.{ℕ, zero, suc, ◌+◌, List, [], ◌∷◌, Bool, true, false, cond, not, ◌||◌, length, ltb}
+use Rattle.fields.specs.Files.{room, unfit}
 use Rattle.table.specs.declared.Entry.{Entry}
 use Rattle.table.specs.Entries.{ascending}
 use Rattle.frames.specs.Pages as pages
 use Rattle.frames.specs.Pages.{distinct, bad_page, any_bad, frame_count}
 use Rattle.world.specs.declared.Slot.{Slot}
 use Rattle.world.specs.declared.Slot.TheVariants.{Installed, Empty}
-use Rattle.world.specs.World.{Files, Mem, World}
+use Rattle.world.specs.World.{Files, World}
 use Rattle.world.specs.Steps.{Step, log_bytes, db_end, clog_end, sum_of, most_of}
 use Rattle.world.specs.Calls.{Call, Install, Uninstall, AllocId, AllocPage, Begin, Read, Write, Flush, Commit, Rollback, Advance, steps, keeps}
 

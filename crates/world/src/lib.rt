@@ -1,4 +1,6 @@
 // The store as lists, and every call on it: what specs/ defines and proofs/ shows of it. There is no code but two types.
+#![tactic(auto)]
+
 use fields::TransactionId;
 
 // The place of a store's transaction: installed, or none.

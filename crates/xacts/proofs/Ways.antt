@@ -8,7 +8,7 @@ use native.Mathlib.Omega.{arith}
 use lib.Dec.{ltb, eqb, lit<}
 use lib.ListN.{length, take, drop, replicate, length-append, length-replicate}
 use lib.Seq.{sets, length-slice}
-use borrow.Author.Tests.{ltb-false, lt-ltb, le-ltb}
+use borrow.Author.Tests.{ltb-false}
 use Rattle.fields.specs.declared.Answer.TheVariants.{Accepted, Refused}
 use Rattle.fields.specs.Files.{File, file_of, room}
 use Rattle.fields.specs.Answers.{outcome, decided}

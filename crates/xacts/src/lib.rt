@@ -1,6 +1,8 @@
 // Status pages as PostgreSQL keeps them in its folder pg_xact: a clog's body written out under a mark, and pages read back into a body. Both calls are
 // total; each contract is one equation with a definition of specs/Calls.antt. Each goes over its input twice: once to test it, so that a refusal changes
 // nothing, and once to write; in a pass each byte is looked at once, whatever its slots are.
+#![tactic(auto)]
+
 ghost use Rattle.std.specs.Prelude.{◌≡◌, cond, ◌-◌, ◌≤◌, ◌<◌, length, drop};
 ghost use Rattle.std.proofs.lemmas.List.Edits.{sets};
 ghost use Rattle.fields.specs.Files.{file_of};

@@ -1,13 +1,9 @@
 -- `apart::any_beyond` meets its contract. The loop's invariant: what was found, or is found in what is left. Assumes nothing.
-use Prim.Native.Nat.{ℕ, ◌≤◌, ◌-◌, ◌+◌, max}
-use mathlib.Core.Path.{◌≡◌, refl, sym, ap, ◌∙◌}
-use mathlib.Core.Bool.{Bool, true, false, ◌&&◌, ◌||◌}
-use native.Mathlib.Omega.{arith}
-use borrow.Author.Rules.{rules}
-use lib.ListN.{length, take, drop}
-use Rattle.fields.proofs.Tests.{or-false}
+use Prim.Native.Nat.{◌≤◌, ◌-◌}
+use mathlib.Core.Path.{◌≡◌}
+use mathlib.Core.Bool.{◌||◌}
+use lib.ListN.{take, drop}
 use Rattle.frames.specs.Pages.{any_bad}
-use Rattle.apart.proofs.Laws.{or-then, bad-on, bad-end}
 use Rattle.apart.proofs.any_beyond.Given as goal
 
 abbrev pub invariant-loop-i : goal.invariant-loop-i

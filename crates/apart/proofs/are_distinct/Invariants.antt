@@ -1,12 +1,8 @@
 -- `apart::are_distinct` meets its contract: pages that ascend are distinct, others are compared pair by pair. Assumes nothing.
 use Prim.Native.Nat.{◌-◌}
-use mathlib.Core.Path.{◌≡◌, refl, sym, ◌∙◌}
-use native.Mathlib.Omega.{arith}
-use borrow.Author.Rules.{rules}
-use lib.ListN.{length, take, drop}
+use mathlib.Core.Path.{◌≡◌}
+use lib.ListN.{take, drop}
 use Rattle.frames.specs.Pages.{distinct}
-use Rattle.frames.proofs.Turns.{distinct-hit, distinct-on, distinct-end}
-use Rattle.apart.proofs.Laws.{rising-distinct}
 use Rattle.apart.proofs.are_distinct.Given as goal
 
 abbrev pub invariant-loop-i : goal.invariant-loop-i

@@ -1,12 +1,9 @@
 -- `apart::is_in` meets its contract. The loop's invariant: what was found, or is found in what is left. Assumes nothing.
-use Prim.Native.Nat.{ℕ, ◌≤◌, ◌-◌, ◌+◌, max}
-use mathlib.Core.Path.{◌≡◌, refl, sym, ap, ◌∙◌}
-use mathlib.Core.Bool.{Bool, true, false, ◌&&◌, ◌||◌}
+use mathlib.Core.Path.{◌≡◌, refl, sym, ◌∙◌}
 use native.Mathlib.Omega.{arith}
 use borrow.Author.Rules.{rules}
-use lib.ListN.{length, take, drop}
+use lib.ListN.{length}
 use Rattle.fields.proofs.Tests.{or-false}
-use Rattle.frames.specs.Pages.{is_in}
 use Rattle.frames.proofs.Turns.{in-turn, in_end}
 use Rattle.apart.proofs.is_in.Goals as goal
 

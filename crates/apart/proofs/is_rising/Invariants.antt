@@ -1,13 +1,9 @@
 -- `apart::is_rising` meets its contract. The loop's invariant: what was found, and the order of what is left. Assumes nothing.
-use Prim.Native.Nat.{ℕ, ◌≤◌, ◌-◌, ◌+◌, max}
-use mathlib.Core.Path.{◌≡◌, refl, sym, ap, ◌∙◌}
-use mathlib.Core.Bool.{Bool, true, false, ◌&&◌, ◌||◌}
-use native.Mathlib.Omega.{arith}
-use borrow.Author.Rules.{rules}
-use lib.ListN.{length, take, drop}
-use Rattle.sorted.proofs.Laws.{ascending-at, ascending-end}
-use Rattle.frames.specs.Pages.{number, ascending}
-use Rattle.apart.proofs.Laws.{and_then, and-true}
+use Prim.Native.Nat.{◌≤◌, ◌-◌, max}
+use mathlib.Core.Path.{◌≡◌}
+use mathlib.Core.Bool.{◌&&◌}
+use lib.ListN.{take, drop}
+use Rattle.frames.specs.Pages.{ascending}
 use Rattle.apart.proofs.is_rising.Given as goal
 
 abbrev pub invariant-loop-i : goal.invariant-loop-i

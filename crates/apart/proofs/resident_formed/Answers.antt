@@ -1,7 +1,6 @@
 -- `apart::resident_formed` meets its contract: over the limit, a page twice, or the rest decides. Assumes nothing.
 use mathlib.Core.Path.{sym, ◌∙◌}
 use native.Mathlib.Omega.{arith}
-use borrow.Author.Rules.{rules}
 use borrow.Author.Tests.{not-true, not-false}
 use Rattle.frames.specs.Pages.{frame_count}
 use Rattle.frames.proofs.Values.{frames-over, frames-fit}

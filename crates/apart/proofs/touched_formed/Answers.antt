@@ -1,6 +1,5 @@
 -- `apart::touched_formed` meets its contract: over the limit, not ascending, or the rest decides. Assumes nothing.
 use mathlib.Core.Path.{sym, ◌∙◌}
-use borrow.Author.Rules.{rules}
 use borrow.Author.Tests.{not-true, not-false}
 use Rattle.frames.proofs.Values.{touched-over, touched-fit}
 use Rattle.apart.proofs.touched_formed.Goals as goal

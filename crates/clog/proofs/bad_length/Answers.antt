@@ -1,5 +1,4 @@
 -- `clog::bad_length` meets its contract: the test of any file decides, and then the least length. Assumes nothing.
-use borrow.Author.Rules.{rules}
 use mathlib.Core.Path.{sym, ◌∙◌}
 use Rattle.clog.specs.Calls.{unfit}
 use Rattle.clog.proofs.bad_length.Goals as goal

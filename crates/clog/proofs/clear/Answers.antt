@@ -1,12 +1,9 @@
 -- `clog::clear` meets its contract. The loop's invariant: clearing what is left, from the place and the w that are left, gives what was asked for.
 -- The measure is how many bytes are left. Assumes nothing.
-use mathlib.Core.Path.{◌≡◌, refl, sym, ◌∙◌}
-use Prim.Native.Nat.{◌-◌, ◌*◌, ◌≤◌}
+use mathlib.Core.Path.{refl, sym, ◌∙◌}
 use native.Mathlib.Omega.{arith}
-use borrow.Author.Rules.{rules}
-use lib.ListN.{length, length-set}
-use lib.Seq.{sets, slice}
-use Rattle.clog.specs.Slots.{cleared, span_below}
+use lib.ListN.{length-set}
+use Rattle.clog.specs.Slots.{span_below}
 use Rattle.clog.proofs.Ways.{clear-turn, clear-end}
 use Rattle.clog.proofs.clear.Goals as goal
 

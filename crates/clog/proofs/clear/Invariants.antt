@@ -1,13 +1,10 @@
 -- `clog::clear` meets its contract. The loop's invariant: clearing what is left, from the place and the w that are left, gives what was asked for.
 -- The measure is how many bytes are left. Assumes nothing.
-use mathlib.Core.Path.{◌≡◌, refl, sym, ◌∙◌}
+use mathlib.Core.Path.{◌≡◌}
 use Prim.Native.Nat.{◌-◌, ◌*◌, ◌≤◌}
-use native.Mathlib.Omega.{arith}
-use borrow.Author.Rules.{rules}
-use lib.ListN.{length, length-set}
+use lib.ListN.{length}
 use lib.Seq.{sets, slice}
-use Rattle.clog.specs.Slots.{cleared, span_below}
-use Rattle.clog.proofs.Ways.{clear-turn, clear-end}
+use Rattle.clog.specs.Slots.{cleared}
 use Rattle.clog.proofs.clear.Given as goal
 
 abbrev pub invariant-loop-i : goal.invariant-loop-i

@@ -1,6 +1,5 @@
 -- `clog::compact_in` meets its contract: a law of proofs/Ways.antt for each way out. Assumes nothing.
-use borrow.Author.Rules.{rules}
-use mathlib.Core.Path.{◌≡◌, sym, ◌∙◌}
+use mathlib.Core.Path.{◌≡◌}
 use native.Mathlib.Omega.{arith}
 use Prim.Native.Nat.{◌-◌}
 use Rattle.clog.proofs.Refusals.{compact-fits}

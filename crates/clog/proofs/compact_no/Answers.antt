@@ -1,5 +1,4 @@
 -- `clog::compact_no` meets its contract: its one test decides. Assumes nothing.
-use borrow.Author.Rules.{rules}
 use mathlib.Core.Path.{sym, ◌∙◌}
 use Rattle.clog.specs.Calls.{compact_no}
 use Rattle.clog.proofs.compact_no.Goals as goal

@@ -2,7 +2,6 @@
 use mathlib.Core.Path.{◌≡◌}
 use Prim.Native.Nat.{min}
 use native.Mathlib.Omega.{arith}
-use borrow.Author.Rules.{rules}
 use Rattle.clog.specs.Slots.{high_bits}
 use Rattle.clog.proofs.high_bits.Goals as goal
 

@@ -1,13 +1,9 @@
 -- `clog::list_in` meets its contract. The loop's invariant: pushing the entries that are left gives what pushing all gives,
 -- and there is room for them. The measure is how many slots are left. Assumes nothing.
-use mathlib.Core.Path.{◌≡◌}
-use Prim.Native.Nat.{◌+◌, ◌-◌, ◌/◌, ◌≤◌}
+use Prim.Native.Nat.{◌+◌, ◌/◌}
 use native.Mathlib.Omega.{arith}
-use borrow.Author.Rules.{rules}
-use lib.ListN.{length, drop, get_or}
-use Rattle.table.specs.Entries.{empty_table}
-use Rattle.clog.specs.Slots.{codes, entries_from, entries_in}
-use Rattle.clog.specs.Inside.{push_all, stride_of}
+use lib.ListN.{drop, get_or}
+use Rattle.clog.specs.Slots.{codes, entries_in}
 use Rattle.clog.proofs.Codes.{stride-turn, stride-small, slots-done, slots-room, list-begin, list-turn, list_done}
 use Rattle.clog.proofs.list_in.Goals as goal
 

@@ -1,6 +1,5 @@
 -- `clog::load_in` meets its contract: a law of proofs/Ways.antt for each way out; that the number is 0 says that the length fits and the entries have room. Assumes nothing.
-use borrow.Author.Rules.{rules}
-use mathlib.Core.Path.{sym, ◌∙◌}
+use mathlib.Core.Path.{sym}
 use native.Mathlib.Omega.{arith}
 use lib.ListN.{take}
 use lib.Seq.{length-take-le}

@@ -1,5 +1,4 @@
 -- `clog::load_no` meets its contract: each test that fails decides; the count is how many slots are not 0. Assumes nothing.
-use borrow.Author.Rules.{rules}
 use mathlib.Core.Path.{sym, ◌∙◌}
 use native.Mathlib.Omega.{arith}
 use lib.Seq.{length-take-le}

@@ -1,5 +1,4 @@
 -- `clog::open` meets its contract: a law of proofs/Ways.antt for each way out: refused, kept, reset. Assumes nothing.
-use borrow.Author.Rules.{rules}
 use mathlib.Core.Path.{sym, ◌∙◌}
 use lib.Seq.{length-take-le}
 use Rattle.clog.proofs.Refusals.{reset-fits}

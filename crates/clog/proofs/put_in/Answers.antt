@@ -1,6 +1,4 @@
 -- `clog::put_in` meets its contract: a law of proofs/Ways.antt for each way out; that the number is 0 says that the byte lies in the buffer. Assumes nothing.
-use borrow.Author.Rules.{rules}
-use mathlib.Core.Path.{sym, ◌∙◌}
 use native.Mathlib.Omega.{arith}
 use Rattle.clog.proofs.Refusals.{record-fits}
 use Rattle.clog.proofs.Ways.{recorded-no, recorded-done}

@@ -1,5 +1,4 @@
 -- `clog::record_in` meets its contract: the status goes in as its code. Assumes nothing.
-use borrow.Author.Rules.{rules}
 use mathlib.Core.Path.{ap, ◌∙◌}
 use Prim.Native.Nat.{ℕ}
 use Rattle.fields.specs.Files.{file_of}

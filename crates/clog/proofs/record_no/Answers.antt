@@ -1,5 +1,4 @@
 -- `clog::record_no` meets its contract: each test that fails decides; the room after the header is compared, which is the definition's test. Assumes nothing.
-use borrow.Author.Rules.{rules}
 use mathlib.Core.Path.{sym, ◌∙◌}
 use Prim.Native.Nat.{◌+◌, ◌-◌, ◌/◌}
 use native.Mathlib.Omega.{arith}

@@ -1,5 +1,4 @@
 -- `clog::reset` meets its contract: a law of proofs/Ways.antt for each way out. Assumes nothing.
-use borrow.Author.Rules.{rules}
 use Rattle.clog.proofs.Ways.{wiped-no, wiped-done}
 use Rattle.clog.specs.Slots.{clog_magic}
 use Rattle.clog.proofs.reset.Goals as goal

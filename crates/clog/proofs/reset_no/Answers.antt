@@ -1,5 +1,4 @@
 -- `clog::reset_no` meets its contract: each test that fails decides. Assumes nothing.
-use borrow.Author.Rules.{rules}
 use mathlib.Core.Path.{sym, ◌∙◌}
 use borrow.Author.Tests.{lt-ltb, le-ltb}
 use Rattle.clog.specs.Calls.{reset_no}

@@ -1,6 +1,5 @@
 -- `clog::span` meets its contract: whole bytes, and one more where slots are left over. Assumes nothing.
 use native.Mathlib.Omega.{arith}
-use borrow.Author.Rules.{rules}
 use Rattle.clog.specs.Slots.{span_below}
 use Rattle.clog.proofs.span.Goals as goal
 

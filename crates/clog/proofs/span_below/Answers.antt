@@ -1,5 +1,4 @@
 -- `clog::span_below` meets its contract: the bytes after the header, none where the length is under 8. Assumes nothing.
-use borrow.Author.Rules.{rules}
 use mathlib.Core.Path.{◌≡◌, ◌∙◌}
 use Prim.Native.Nat.{◌-◌}
 use native.Mathlib.Omega.{arith}

@@ -1,5 +1,4 @@
 -- `clog::stride` meets its contract: the test on 0 is the definition's. Assumes nothing.
-use borrow.Author.Rules.{rules}
 use borrow.Author.Tests.{eq-eqb, ne_eqb}
 use Rattle.clog.specs.Inside.{stride_of}
 use Rattle.clog.proofs.stride.Goals as goal

@@ -1,7 +1,6 @@
 -- `clog::with_bits` meets its contract: each slot has its own literals, at which the powers of 4 compute. Assumes nothing.
 use mathlib.Core.Path.{◌≡◌}
 use native.Mathlib.Omega.{arith}
-use borrow.Author.Rules.{rules}
 use Rattle.clog.specs.Slots.{with_bits}
 use Rattle.clog.proofs.with_bits.Goals as goal
 

@@ -1,7 +1,6 @@
 -- `form::buffers_bad` meets its contract: the tests of `bad_buffers`, one after the other. Assumes nothing.
 use Rattle.fields.proofs.Tests.{or-false}
 use Rattle.world.specs.Refusals.{bad_buffers, any_of}
-use borrow.Author.Rules.{rules}
 use Rattle.form.proofs.buffers_bad.Goals as goal
 
 pub returns-then-is_unfit : goal.returns-then-is_unfit

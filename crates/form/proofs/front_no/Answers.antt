@@ -1,5 +1,4 @@
 -- `form::front_no` meets its contract: 1 by `buffers_bad`, then 14 by `store_bad`. Assumes nothing.
-use borrow.Author.Rules.{rules}
 use Rattle.form.proofs.Front.{front-is}
 use Rattle.form.proofs.front_no.Goals as goal
 

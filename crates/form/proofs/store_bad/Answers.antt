@@ -3,7 +3,6 @@
 use borrow.Author.Tests.{lt-ltb, le-ltb}
 use borrow.Author.Rules.{rules}
 use Rattle.sorted.proofs.Laws.{length-of-mapped}
-use Rattle.form.proofs.Arrays.{Sized}
 use Rattle.form.proofs.Front.{form-is}
 use Rattle.form.proofs.store_bad.Goals as goal
 

@@ -1,8 +1,7 @@
 -- `frames::mark` meets its contract: each of its three ways out is a law of proofs/Values.antt. Assumes nothing.
 use mathlib.Core.Path.{◌≡◌}
-use Prim.Native.Nat.{◌<◌}
 use native.Mathlib.Omega.{arith}
-use lib.ListN.{length, get_or}
+use lib.ListN.{length}
 use Rattle.sorted.proofs.Laws.{place-held}
 use Rattle.frames.specs.Pages.{number}
 use Rattle.frames.proofs.Values.{mark-hit, mark-over, mark-new}

@@ -1,5 +1,4 @@
 -- `gathers::commit_plan` meets its contract. Assumes nothing.
-use borrow.Author.Rules.{rules}
 use Rattle.plans.specs.Planned.{plan_of}
 use Rattle.gathers.proofs.commit_plan.Goals as goal
 

@@ -1,6 +1,5 @@
 -- `gathers::is_catalog` meets its contract. Assumes nothing.
 use mathlib.Core.Path.{sym, ◌∙◌}
-use borrow.Author.Rules.{rules}
 use Rattle.picks.proofs.Laws.{catalog-1, catalog-2, catalog-list}
 use Rattle.gathers.proofs.is_catalog.Goals as goal
 

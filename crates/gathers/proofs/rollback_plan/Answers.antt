@@ -1,5 +1,4 @@
 -- `gathers::rollback_plan` meets its contract. Assumes nothing.
-use borrow.Author.Rules.{rules}
 use Rattle.plans.specs.Planned.{plan_of}
 use Rattle.gathers.proofs.rollback_plan.Goals as goal
 

@@ -1,5 +1,4 @@
 -- `gathers::wanted` meets its contract. Assumes nothing.
-use borrow.Author.Rules.{rules}
 use Rattle.gathers.proofs.wanted.Goals as goal
 
 pub returns-in-Data : goal.returns-in-Data

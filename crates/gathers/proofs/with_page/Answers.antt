@@ -1,5 +1,4 @@
 -- `gathers::with_page` meets its contract. Assumes nothing.
-use borrow.Author.Rules.{rules}
 use borrow.Author.Tests.{not-true, not-false}
 use Rattle.picks.proofs.Laws.{seat-no, seat-none, seat-some}
 use Rattle.gathers.proofs.with_page.Goals as goal

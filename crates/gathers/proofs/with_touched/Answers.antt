@@ -3,7 +3,6 @@ use mathlib.Core.Path.{◌∙◌}
 use lib.ListN.{take}
 use Rattle.picks.specs.Picks.{wants}
 use Rattle.gathers.proofs.Laws.{far-out}
-use borrow.Author.Rules.{rules}
 use Rattle.gathers.proofs.with_touched.Goals as goal
 
 pub returns-then-x-gt-LAST : goal.returns-then-x-gt-LAST

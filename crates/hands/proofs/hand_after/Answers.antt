@@ -3,13 +3,11 @@ use native.Mathlib.Omega.{arith}
 use native.Mathlib.Numerals.{add-one}
 use borrow.Author.Rules.{rules}
 use mathlib.Core.Path.{◌≡◌, sym, ap, ◌∙◌}
-use Prim.Native.Nat.{◌≤◌, ◌<◌}
 use lib.ListN.{length, set, length-set}
 use Rattle.sorted.proofs.Laws.{length-of-mapped}
 use Rattle.table.specs.Entries.{blank}
 use mathlib.Core.List.{List}
 use Rattle.table.specs.declared.Entry.{Entry}
-use Rattle.hands.specs.Handing.{handed_as, handed}
 use Rattle.hands.specs.Inside.{to_hand}
 use Rattle.hands.proofs.HandLaws.{up_to, up_to-next, hand-le, hand-done}
 use Rattle.hands.proofs.hand_after.Goals as goal
@@ -28,8 +26,7 @@ loop-i-preserved c =
     let l = c.loop-i in
     let t = c.args.t in
     let le = hand-le 256 t (length c.args.out.now) c.args.before in
-    let len : length t.entries ≡ 256 = search (rules, length-of-mapped) in
-    (
+    let len : length t.entries ≡ 256 = search (rules, length-of-mapped) in (
       omega arith,
       length-set l.out l.i c.entry_at.result ∙ l.invariant.1,
       ap (λ (o : List Entry). set o l.i c.entry_at.result) l.invariant.2 ∙ ap (set (up_to t.entries c.args.out.now l.i) l.i) c.entry_at.ensures ∙ up_to-next t.entries c.args.out.now l.i blank (omega arith) (omega arith) ∙ ap (up_to t.entries c.args.out.now) (sym (add-one l.i)),

@@ -1,5 +1,4 @@
 -- `hands::hand_no` meets its contract: each number by the test that gives it. Assumes nothing.
-use borrow.Author.Rules.{rules}
 use Rattle.hands.proofs.HandLaws.{no-before, no-form, no_short, no_none}
 use Rattle.hands.proofs.hand_no.Goals as goal
 

@@ -1,5 +1,4 @@
 -- `hands::reply` meets its contract: accepted where the number is 0. Assumes nothing.
-use borrow.Author.Rules.{rules}
 use Rattle.hands.proofs.HandLaws.{accepts, refuses}
 use Rattle.hands.proofs.reply.Goals as goal
 

@@ -1,5 +1,4 @@
 -- `hands::to_hand` meets its contract: all entries go where the number is 0, else none. Assumes nothing.
-use borrow.Author.Rules.{rules}
 use Rattle.hands.proofs.HandLaws.{all_go, none-go}
 use Rattle.hands.proofs.to_hand.Goals as goal
 

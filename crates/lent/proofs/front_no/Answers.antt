@@ -1,5 +1,4 @@
 -- `lent::front_no` meets its contract: 1, then 14. Assumes nothing.
-use borrow.Author.Rules.{rules}
 use Rattle.lent.specs.Lent.{lent}
 use Rattle.lent.proofs.Laws.{front-all}
 use Rattle.lent.proofs.front_no.Goals as goal

@@ -2,7 +2,7 @@
 use borrow.Author.Rules.{rules}
 use borrow.Author.Tests.{lt-ltb, le-ltb}
 use Rattle.lent.specs.Lent.{lent}
-use Rattle.lent.proofs.Laws.{Fit, bad-lent, rows-over, rows-bad}
+use Rattle.lent.proofs.Laws.{bad-lent, rows-over, rows-bad}
 use Rattle.lent.proofs.is_bad.Goals as goal
 
 pub returns-then-is_odd : goal.returns-then-is_odd

@@ -1,12 +1,8 @@
 -- `picks::any_bad` meets its contract. Assumes nothing.
-use mathlib.Core.Path.{◌≡◌, sym, ap, ◌∙◌}
+use mathlib.Core.Path.{◌≡◌}
 use Prim.Native.Nat.{◌-◌, ◌≤◌}
-use native.Mathlib.Omega.{arith}
-use borrow.Author.Rules.{rules}
 use lib.ListN.{length, take, drop}
-use lib.Seq.{take-length}
 use Rattle.frames.specs.Pages.{any_bad}
-use Rattle.frames.proofs.Turns.{bad-here, bad-on, bad-end}
 use Rattle.picks.proofs.any_bad.Given as goal
 
 abbrev pub invariant-loop-i : goal.invariant-loop-i

@@ -1,6 +1,5 @@
 -- `picks::none` meets its contract. Assumes nothing.
 use mathlib.Core.Path.{refl}
-use borrow.Author.Rules.{rules}
 use Rattle.picks.specs.Picks.{picked_of}
 use Rattle.picks.proofs.none.Goals as goal
 

@@ -1,14 +1,9 @@
 -- `picks::pick` meets its contract: after turn i the first i touched pages are dealt with. Assumes nothing.
-use mathlib.Core.Path.{◌≡◌, ap, ◌∙◌}
-use mathlib.Core.List.{List}
-use Prim.Native.Nat.{ℕ, ◌-◌, ◌≤◌}
-use native.Mathlib.Omega.{arith}
-use borrow.Author.Rules.{rules}
-use lib.ListN.{length, take}
-use Rattle.sorted.proofs.Laws.{take_min}
+use mathlib.Core.Path.{◌≡◌}
+use Prim.Native.Nat.{◌-◌, ◌≤◌}
+use lib.ListN.{take}
 use Rattle.frames.specs.Pages.{resident_of}
 use Rattle.picks.specs.Picks.{seats_of, chosen, picked_of}
-use Rattle.picks.proofs.Laws.{picked_none, picked-small, picked-turn}
 use Rattle.picks.proofs.pick.Given as goal
 
 abbrev pub invariant-loop-i : goal.invariant-loop-i

@@ -1,7 +1,4 @@
 -- `picks::wanted` meets its contract. Assumes nothing.
-use mathlib.Core.Path.{◌≡◌, ap, ◌∙◌}
-use borrow.Author.Rules.{rules}
-use mathlib.Core.Bool.{Bool, not}
 use Rattle.picks.proofs.wanted.Goals as goal
 
 pub returns-in-Data : goal.returns-in-Data

@@ -1,8 +1,4 @@
 -- `picks::with_page` meets its contract. Assumes nothing.
-use mathlib.Core.Path.{◌≡◌, refl, sym, ◌∙◌}
-use lib.ListN.{length}
-use native.Mathlib.Omega.{arith}
-use borrow.Author.Rules.{rules}
 use borrow.Author.Tests.{not-true, not-false}
 use Rattle.picks.proofs.Laws.{seat-no, seat-none, seat-some}
 use Rattle.picks.proofs.with_page.Goals as goal

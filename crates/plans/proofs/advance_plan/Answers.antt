@@ -1,6 +1,5 @@
 -- `plans::advance_plan` meets its contract. Assumes nothing.
 use mathlib.Core.Path.{◌∙◌}
-use borrow.Author.Rules.{rules}
 use Rattle.plans.proofs.advance_plan.Goals as goal
 
 pub returns : goal.returns

@@ -1,6 +1,5 @@
 -- `plans::bare` meets its contract. Assumes nothing.
 use mathlib.Core.Path.{refl}
-use borrow.Author.Rules.{rules}
 use Rattle.picks.specs.Picks.{picked_of}
 use Rattle.plans.specs.Planned.{plan_of}
 use Rattle.plans.proofs.bare.Goals as goal

@@ -1,6 +1,5 @@
 -- `plans::begin_plan` meets its contract. Assumes nothing.
 use mathlib.Core.Path.{◌∙◌}
-use borrow.Author.Rules.{rules}
 use Rattle.plans.proofs.begin_plan.Goals as goal
 
 pub returns : goal.returns

@@ -1,6 +1,4 @@
 -- `plans::flush_plan` meets its contract. Assumes nothing.
-use mathlib.Core.Path.{◌∙◌}
-use borrow.Author.Rules.{rules}
 use Rattle.picks.specs.Picks.{picked_of}
 use Rattle.plans.specs.Planned.{plan_of}
 use Rattle.plans.proofs.flush_plan.Goals as goal

@@ -1,6 +1,4 @@
 -- `plans::rollback_plan` meets its contract. Assumes nothing.
-use mathlib.Core.Path.{◌∙◌}
-use borrow.Author.Rules.{rules}
 use Rattle.plans.specs.Planned.{plan_of}
 use Rattle.plans.proofs.rollback_plan.Goals as goal
 

@@ -5,7 +5,6 @@ use borrow.Author.Rules.{rules}
 use Rattle.sorted.proofs.Laws.{length-of-mapped}
 use Rattle.world.specs.Refusals.{front_no}
 use Rattle.form.specs.Store.{world_of}
-use Rattle.form.proofs.Arrays.{Sized}
 use Rattle.quiet.proofs.Entries.{read-refused, in_array, read_past, read_is}
 use Rattle.quiet.proofs.entry_at.Goals as goal
 

@@ -1,6 +1,5 @@
 -- `quiet::entry_count` meets its contract: refused by 1 or 14, or the table's count. Assumes nothing.
 use mathlib.Core.Path.{◌≡◌, sym, ◌∙◌}
-use borrow.Author.Rules.{rules}
 use Rattle.world.specs.Refusals.{front_no}
 use Rattle.form.specs.Store.{world_of}
 use Rattle.quiet.proofs.Entries.{count-refused, count-out}

@@ -1,12 +1,11 @@
 -- `quiet::install` meets its contract: refused by 1 or 14, by 14 of the transaction, by 9, or put in. Assumes nothing.
 -- the arrays have the sizes of their types
 use mathlib.Core.Path.{◌≡◌, sym, ap, ◌∙◌}
-use lib.ListN.{length}
 use borrow.Author.Rules.{rules}
 use Rattle.sorted.proofs.Laws.{length-of-mapped}
 use Rattle.world.specs.Refusals.{front_no}
 use Rattle.form.specs.Store.{world_of, installed, with_array}
-use Rattle.form.proofs.Arrays.{Sized, touched-bad}
+use Rattle.form.proofs.Arrays.{touched-bad}
 use Rattle.form.proofs.Called.{refused-front, refused-call}
 use Rattle.quiet.proofs.Transactions.{install-14, install-9, install-out}
 use mathlib.Core.Bool.{not}
@@ -42,4 +41,4 @@ returns c =
     let a = c.args in
     let e0 : front_no 4096 (world_of a.s a.log.now a.db.now a.clog.now a.frames.now) ≡ 0 = sym c.front_no-no.ensures ∙ c.if-no-ne-ACCEPTED.false in
     let good = sym (touched-bad a.x.touched ((search rules))) ∙ ap not (sym c.touched_formed.ensures) ∙ c.if-not-touched_formed.false-raw in
-    install-out 4096 a.x a.s a.log.now a.db.now a.clog.now a.frames.now good e0 (sym c.is_installed.ensures ∙ c.if-is_installed.false) ((record { entries = search (rules, length-of-mapped); pages = search (rules, c.well_formed.0.1.1.1.1.1.1); touched = search (rules, c.well_formed.0.1.1.1.1.1.1.1.1.1); })) ((search rules))
+    install-out 4096 a.x a.s a.log.now a.db.now a.clog.now a.frames.now good e0 (sym c.is_installed.ensures ∙ c.if-is_installed.false) ((record { entries = search (rules, length-of-mapped); pages = search (rules, c.well_formed.0.1.1.1.1.1.1); touched = search (rules, c.well_formed.0.1.1.1.1.1.1.1.1.1) })) ((search rules))

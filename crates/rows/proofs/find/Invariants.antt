@@ -1,15 +1,10 @@
 -- `rows::find` meets its contract. The loop's invariant: a look-up in what is left of the rows gives what a look-up in all of them gives.
 -- The measure is how many are left. Assumes nothing.
 use Prim.Native.Nat.{◌≤◌, ◌-◌}
-use mathlib.Core.Path.{◌≡◌, refl, sym, ap, ◌∙◌}
-use native.Mathlib.Omega.{arith}
-use borrow.Author.Rules.{rules}
-use lib.ListN.{length, take, drop}
-use Rattle.table.specs.declared.Known.TheVariants.{Is}
+use mathlib.Core.Path.{◌≡◌}
+use lib.ListN.{take, drop}
 use Rattle.sorted.specs.Sorted.{look_by}
-use Rattle.sorted.proofs.Laws.{look-here, look-on, look-end}
 use Rattle.rows.specs.Rows.{row_id}
-use Rattle.rows.proofs.Laws.{no_row, found, found-is}
 use Rattle.rows.proofs.find.Given as goal
 
 abbrev pub invariant-loop-i : goal.invariant-loop-i

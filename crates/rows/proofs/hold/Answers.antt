@@ -1,6 +1,4 @@
 -- `rows::hold` meets its contract. Assumes nothing.
-use borrow.Author.Rules.{rules}
-use mathlib.Core.Path.{◌≡◌, sym, ap, ◌∙◌}
 use borrow.Author.Tests.{eq-eqb, ne_eqb}
 use Rattle.rows.specs.Rows.{held_row}
 use Rattle.rows.proofs.hold.Goals as goal

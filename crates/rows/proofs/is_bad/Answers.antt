@@ -1,10 +1,9 @@
 -- `rows::is_bad` meets its contract. The loop's invariant: what was found, or is found from the row before on. Assumes nothing.
-use Prim.Native.Nat.{ℕ, ◌≤◌, ◌-◌, ◌+◌}
-use mathlib.Core.Path.{◌≡◌, refl, sym, ap, ◌∙◌}
-use mathlib.Core.Bool.{Bool, true, false, ◌||◌}
+use Prim.Native.Nat.{◌-◌, ◌+◌}
+use mathlib.Core.Path.{◌≡◌, sym, ap, ◌∙◌}
+use mathlib.Core.Bool.{Bool, false, ◌||◌}
 use native.Mathlib.Omega.{arith}
 use borrow.Author.Rules.{rules}
-use mathlib.Core.List.{List}
 use lib.ListN.{length, take, drop, get_or}
 use lib.Dec.{leb}
 use Rattle.rows.specs.Rows.{row_id}

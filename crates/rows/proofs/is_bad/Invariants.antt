@@ -1,15 +1,9 @@
 -- `rows::is_bad` meets its contract. The loop's invariant: what was found, or is found from the row before on. Assumes nothing.
-use Prim.Native.Nat.{ℕ, ◌≤◌, ◌-◌, ◌+◌}
-use mathlib.Core.Path.{◌≡◌, refl, sym, ap, ◌∙◌}
-use mathlib.Core.Bool.{Bool, true, false, ◌||◌}
-use native.Mathlib.Omega.{arith}
-use borrow.Author.Rules.{rules}
-use mathlib.Core.List.{List}
-use lib.ListN.{length, take, drop, get_or}
-use lib.Dec.{leb}
-use Rattle.rows.specs.Rows.{row_id}
+use Prim.Native.Nat.{◌≤◌, ◌-◌}
+use mathlib.Core.Path.{◌≡◌}
+use mathlib.Core.Bool.{◌||◌}
+use lib.ListN.{take, drop}
 use Rattle.rows.specs.Inside.{bad_rows}
-use Rattle.rows.proofs.Laws.{no_row, bad-on, bad_last, bad-none, or-then, held_first}
 use Rattle.rows.proofs.is_bad.Given as goal
 
 abbrev pub invariant-loop-i : goal.invariant-loop-i

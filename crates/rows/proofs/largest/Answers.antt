@@ -1,13 +1,9 @@
 -- `rows::largest` meets its contract. The loop's invariant: the larger of the number held and the largest of what is left is the largest of all. The measure is how many are left. Assumes nothing.
 use borrow.Author.Rules.{rules}
-use Prim.Native.Nat.{◌≤◌, ◌-◌, max}
 use mathlib.Core.Path.{◌≡◌}
-use mathlib.Core.List.{map}
 use native.Mathlib.Omega.{arith}
-use lib.ListN.{length, take, drop}
-use Rattle.table.specs.Entries.{largest_by}
+use lib.ListN.{length}
 use Rattle.table.specs.Inside.{number_of}
-use Rattle.rows.specs.Rows.{entry_of}
 use Rattle.rows.proofs.Several.{largest-on, largest-end}
 use Rattle.rows.proofs.largest.Goals as goal
 

@@ -1,5 +1,4 @@
 -- `rows::largest_time` meets its contract: the number is what `largest` ensures. Assumes nothing.
-use borrow.Author.Rules.{rules}
 use Rattle.rows.proofs.largest_time.Goals as goal
 
 pub returns : goal.returns

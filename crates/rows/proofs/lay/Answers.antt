@@ -1,10 +1,9 @@
 -- `rows::lay` meets its contract. The loop's invariant: the first i rows are the other array's, the others are as they were. The measure is how many are left. Assumes nothing.
 use borrow.Author.Rules.{rules}
-use Prim.Native.Nat.{ℕ, ◌≤◌, ◌-◌, min}
-use mathlib.Core.Path.{◌≡◌, refl, sym, ap, ◌∙◌}
-use mathlib.Core.List.{List, ◌++◌}
+use Prim.Native.Nat.{min}
+use mathlib.Core.Path.{◌≡◌, refl}
 use native.Mathlib.Omega.{arith}
-use lib.ListN.{length, take, drop}
+use lib.ListN.{length}
 use Rattle.sorted.proofs.Laws.{take_min, length-min}
 use Rattle.rows.proofs.Several.{copy-on}
 use Rattle.rows.proofs.lay.Goals as goal

@@ -1,12 +1,8 @@
 -- `rows::lay` meets its contract. The loop's invariant: the first i rows are the other array's, the others are as they were. The measure is how many are left. Assumes nothing.
-use borrow.Author.Rules.{rules}
-use Prim.Native.Nat.{ℕ, ◌≤◌, ◌-◌, min}
-use mathlib.Core.Path.{◌≡◌, refl, sym, ap, ◌∙◌}
-use mathlib.Core.List.{List, ◌++◌}
-use native.Mathlib.Omega.{arith}
-use lib.ListN.{length, take, drop}
-use Rattle.sorted.proofs.Laws.{take_min, length-min}
-use Rattle.rows.proofs.Several.{copy-on}
+use Prim.Native.Nat.{◌≤◌, ◌-◌}
+use mathlib.Core.Path.{◌≡◌}
+use mathlib.Core.List.{◌++◌}
+use lib.ListN.{take, drop}
 use Rattle.rows.proofs.lay.Given as goal
 
 abbrev pub invariant-loop-i : goal.invariant-loop-i

@@ -1,14 +1,9 @@
 -- `rows::lay_table` meets its contract. The loop's invariant: the first i rows are the table's, the others are as they were. The measure is how many are left. Assumes nothing.
-use borrow.Author.Rules.{rules}
-use Prim.Native.Nat.{ℕ, ◌≤◌, ◌-◌, min}
-use mathlib.Core.Path.{◌≡◌, refl, sym, ap, ◌∙◌}
-use mathlib.Core.List.{List, ◌++◌, map}
-use native.Mathlib.Omega.{arith}
-use Rattle.sorted.proofs.Laws.{length-of-mapped}
-use lib.ListN.{length, take, drop}
-use Rattle.table.specs.Entries.{blank}
+use Prim.Native.Nat.{◌≤◌, ◌-◌}
+use mathlib.Core.Path.{◌≡◌}
+use mathlib.Core.List.{◌++◌, map}
+use lib.ListN.{take, drop}
 use Rattle.rows.specs.Rows.{row_of}
-use Rattle.rows.proofs.Several.{table_on, table_done}
 use Rattle.rows.proofs.lay_table.Given as goal
 
 abbrev pub invariant-loop-i : goal.invariant-loop-i

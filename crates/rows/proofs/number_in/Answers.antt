@@ -1,5 +1,4 @@
 -- `rows::number_in` meets its contract. Assumes nothing.
-use borrow.Author.Rules.{rules}
 use borrow.Author.Tests.{not-true, not-false}
 use lib.ListN.{get_or}
 use Rattle.rows.proofs.Several.{time-one, time-other}

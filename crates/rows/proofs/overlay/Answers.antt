@@ -1,11 +1,9 @@
 -- `rows::overlay` meets its contract. The loop's invariant: setting what is left gives what setting all gives. The measure is how many are left. Assumes nothing.
 use borrow.Author.Rules.{rules}
-use Prim.Native.Nat.{◌≤◌, ◌-◌}
 use mathlib.Core.Path.{◌≡◌, refl, sym, ap, ◌∙◌}
-use mathlib.Core.List.{map}
 use native.Mathlib.Omega.{arith}
-use lib.ListN.{length, take, drop, get_or}
-use Rattle.rows.specs.Rows.{entry_of, rowed, held_row, set_all}
+use lib.ListN.{length}
+use Rattle.rows.specs.Rows.{rowed, held_row}
 use Rattle.rows.proofs.Several.{all-on, all_end}
 use Rattle.rows.proofs.overlay.Goals as goal
 

@@ -1,12 +1,9 @@
 -- `rows::overlay` meets its contract. The loop's invariant: setting what is left gives what setting all gives. The measure is how many are left. Assumes nothing.
-use borrow.Author.Rules.{rules}
 use Prim.Native.Nat.{◌≤◌, ◌-◌}
-use mathlib.Core.Path.{◌≡◌, refl, sym, ap, ◌∙◌}
+use mathlib.Core.Path.{◌≡◌}
 use mathlib.Core.List.{map}
-use native.Mathlib.Omega.{arith}
-use lib.ListN.{length, take, drop, get_or}
-use Rattle.rows.specs.Rows.{entry_of, rowed, held_row, set_all}
-use Rattle.rows.proofs.Several.{all-on, all_end}
+use lib.ListN.{take, drop}
+use Rattle.rows.specs.Rows.{entry_of, rowed, set_all}
 use Rattle.rows.proofs.overlay.Given as goal
 
 abbrev pub invariant-loop-i : goal.invariant-loop-i

@@ -1,14 +1,12 @@
 -- `rows::place` meets its contract. The loop's invariant: the place is what was passed and the place in what is left. The measure is how many are left.
 -- Assumes nothing.
-use Prim.Native.Nat.{◌≤◌, ◌-◌, ◌+◌}
 use mathlib.Core.Path.{◌≡◌, sym}
 use native.Mathlib.Nat.{zero-add}
 use native.Mathlib.Omega.{arith}
 use borrow.Author.Rules.{rules}
-use lib.ListN.{length, take, drop}
+use lib.ListN.{length}
 use Rattle.sorted.proofs.Laws.{place-stop, place-on, place_end}
 use Rattle.rows.specs.Rows.{row_id}
-use Rattle.rows.specs.Inside.{place_of}
 use Rattle.rows.proofs.Laws.{no_row}
 use Rattle.rows.proofs.place.Goals as goal
 

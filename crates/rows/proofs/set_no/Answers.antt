@@ -1,11 +1,10 @@
 -- `rows::set_no` meets its contract: the three ways out of `with_status`, without its change. Assumes nothing.
 use mathlib.Core.Path.{◌≡◌, refl, ap}
-use Prim.Native.Nat.{◌<◌}
 use native.Mathlib.Omega.{arith}
-use lib.ListN.{length, get_or}
+use lib.ListN.{length}
 use Rattle.table.specs.declared.Status.TheVariants.{Active}
-use Rattle.rows.specs.Rows.{row_id, row_kept}
-use Rattle.rows.proofs.Laws.{no_row, with-hit, with-full, with-new}
+use Rattle.rows.specs.Rows.{row_kept}
+use Rattle.rows.proofs.Laws.{with-hit, with-full, with-new}
 use borrow.Author.Rules.{rules}
 use Rattle.rows.proofs.set_no.Goals as goal
 use Rattle.rows.proofs.set_no.Goals.{then-p-n+else-rows-p, else-p-n}

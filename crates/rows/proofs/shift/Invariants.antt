@@ -1,11 +1,7 @@
 -- `rows::shift` meets its contract. The loop's invariant: the rows from i to `to` have moved up by one. The measure is i. Assumes nothing.
 use Prim.Native.Nat.{◌≤◌, ◌-◌}
 use mathlib.Core.Path.{◌≡◌}
-use native.Mathlib.Omega.{arith}
-use borrow.Author.Rules.{rules}
-use lib.ListN.{length}
-use Rattle.sorted.proofs.Laws.{moved, moved_none, moved_more, moved-put}
-use Rattle.rows.proofs.Laws.{no_row}
+use Rattle.sorted.proofs.Laws.{moved}
 use Rattle.rows.proofs.shift.Given as goal
 
 abbrev pub invariant-loop-i : goal.invariant-loop-i

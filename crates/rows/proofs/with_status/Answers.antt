@@ -1,9 +1,8 @@
 -- `rows::with_status` meets its contract: each of its three ways out is a law of proofs/Laws.antt. Assumes nothing.
-use mathlib.Core.Path.{◌≡◌, sym, ap, ◌∙◌}
-use Prim.Native.Nat.{◌<◌}
+use mathlib.Core.Path.{◌≡◌}
 use native.Mathlib.Omega.{arith}
 use borrow.Author.Rules.{rules}
-use lib.ListN.{length, get_or}
+use lib.ListN.{length}
 use Rattle.sorted.proofs.Laws.{place-held}
 use Rattle.rows.specs.Rows.{row_id}
 use Rattle.rows.proofs.Laws.{no_row, with-hit, with-full, with-new}

@@ -1,11 +1,7 @@
 -- `seats::any_bad` meets its contract. The loop's invariant: what is left of the pages gives the answer. The measure is how many are left. Assumes nothing.
 use Rattle.frames.proofs.Turns.{bad-here, bad-on, bad-end}
-use mathlib.Core.Path.{◌≡◌, refl, sym, ◌∙◌}
-use Prim.Native.Nat.{◌-◌}
+use mathlib.Core.Path.{refl, sym, ◌∙◌}
 use native.Mathlib.Omega.{arith}
-use borrow.Author.Rules.{rules}
-use lib.ListN.{take, drop}
-use Rattle.frames.specs.Pages.{any_bad}
 use Rattle.seats.proofs.any_bad.Goals as goal
 
 pub loop-i-init : goal.loop-i-init

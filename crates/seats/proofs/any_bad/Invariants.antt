@@ -1,9 +1,6 @@
 -- `seats::any_bad` meets its contract. The loop's invariant: what is left of the pages gives the answer. The measure is how many are left. Assumes nothing.
-use Rattle.frames.proofs.Turns.{bad-here, bad-on, bad-end}
-use mathlib.Core.Path.{◌≡◌, refl, sym, ◌∙◌}
+use mathlib.Core.Path.{◌≡◌}
 use Prim.Native.Nat.{◌-◌}
-use native.Mathlib.Omega.{arith}
-use borrow.Author.Rules.{rules}
 use lib.ListN.{take, drop}
 use Rattle.frames.specs.Pages.{any_bad}
 use Rattle.seats.proofs.any_bad.Given as goal

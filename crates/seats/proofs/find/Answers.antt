@@ -1,13 +1,11 @@
 -- `seats::find` meets its contract. The loop's invariant: what was passed does not hold the page, so that it stands in what is left or nowhere.
 -- The measure is how many are left. Assumes nothing.
-use Rattle.frames.specs.Pages.{is_in, slot_of}
 use Rattle.frames.proofs.Turns.{in-here, in_on, in_end, slot-here, slot-on, found_at, found_none}
 use mathlib.Core.Path.{◌≡◌, refl, sym, ◌∙◌}
-use Prim.Native.Nat.{◌+◌, ◌-◌, ◌≤◌}
 use native.Mathlib.Nat.{zero-add}
 use native.Mathlib.Omega.{arith}
 use borrow.Author.Rules.{rules}
-use lib.ListN.{length, take, drop}
+use lib.ListN.{length, take}
 use Rattle.seats.proofs.find.Goals as goal
 
 pub loop-i-init : goal.loop-i-init

@@ -2,11 +2,10 @@
 -- Assumes nothing.
 use Rattle.sorted.proofs.Laws.{ascending-on, ascending-stop, ascending-end}
 use mathlib.Core.Path.{◌≡◌, refl, sym, ◌∙◌}
-use Prim.Native.Nat.{◌+◌, ◌-◌, ◌≤◌, max}
+use Prim.Native.Nat.{◌+◌, ◌-◌}
 use native.Mathlib.Omega.{arith}
 use borrow.Author.Rules.{rules}
-use lib.ListN.{take, drop}
-use Rattle.frames.specs.Pages.{number, ascending}
+use Rattle.frames.specs.Pages.{number}
 use Rattle.seats.proofs.is_climbing.Goals as goal
 
 pub loop-i-init : goal.loop-i-init

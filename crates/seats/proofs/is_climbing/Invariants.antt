@@ -1,12 +1,9 @@
 -- `seats::is_climbing` meets its contract. The loop's invariant: the pages are ascending if they are from page i - 1 on. The measure is how many are left.
 -- Assumes nothing.
-use Rattle.sorted.proofs.Laws.{ascending-on, ascending-stop, ascending-end}
-use mathlib.Core.Path.{◌≡◌, refl, sym, ◌∙◌}
-use Prim.Native.Nat.{◌+◌, ◌-◌, ◌≤◌, max}
-use native.Mathlib.Omega.{arith}
-use borrow.Author.Rules.{rules}
+use mathlib.Core.Path.{◌≡◌}
+use Prim.Native.Nat.{◌-◌, ◌≤◌, max}
 use lib.ListN.{take, drop}
-use Rattle.frames.specs.Pages.{number, ascending}
+use Rattle.frames.specs.Pages.{ascending}
 use Rattle.seats.proofs.is_climbing.Given as goal
 
 abbrev pub invariant-loop-i : goal.invariant-loop-i

@@ -1,12 +1,9 @@
 -- `seats::is_in` meets its contract. The loop's invariant: what was found, or is found in what is left of the pages. The measure is how many are left. Assumes nothing.
-use Rattle.frames.specs.Pages.{is_in}
 use Rattle.frames.proofs.Turns.{in-turn, in_end}
 use mathlib.Core.Path.{◌≡◌, refl, sym, ◌∙◌}
-use mathlib.Core.Bool.{◌||◌}
-use Prim.Native.Nat.{◌-◌}
 use native.Mathlib.Omega.{arith}
 use borrow.Author.Rules.{rules}
-use lib.ListN.{length, take, drop}
+use lib.ListN.{length}
 use Rattle.fields.proofs.Tests.{or-false}
 use Rattle.seats.proofs.is_in.Goals as goal
 

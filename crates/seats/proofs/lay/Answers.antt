@@ -1,11 +1,9 @@
 -- `seats::lay` meets its contract: what is left to store, stored, gives what was asked for. Assumes nothing.
 use Rattle.fields.proofs.Stored.{copy-turn, copy-end}
-use mathlib.Core.Path.{◌≡◌, refl, sym, ◌∙◌}
-use Prim.Native.Nat.{◌-◌}
+use mathlib.Core.Path.{refl, sym, ◌∙◌}
 use native.Mathlib.Omega.{arith}
 use borrow.Author.Rules.{rules}
-use lib.ListN.{length, drop, length-set}
-use lib.Seq.{sets}
+use lib.ListN.{length-set}
 use Rattle.seats.proofs.lay.Goals as goal
 
 pub loop-i-init : goal.loop-i-init

@@ -1,10 +1,7 @@
 -- `seats::lay` meets its contract: what is left to store, stored, gives what was asked for. Assumes nothing.
-use Rattle.fields.proofs.Stored.{copy-turn, copy-end}
-use mathlib.Core.Path.{◌≡◌, refl, sym, ◌∙◌}
+use mathlib.Core.Path.{◌≡◌}
 use Prim.Native.Nat.{◌-◌}
-use native.Mathlib.Omega.{arith}
-use borrow.Author.Rules.{rules}
-use lib.ListN.{length, drop, length-set}
+use lib.ListN.{length, drop}
 use lib.Seq.{sets}
 use Rattle.seats.proofs.lay.Given as goal
 

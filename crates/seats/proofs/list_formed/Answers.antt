@@ -1,5 +1,4 @@
 -- `seats::list_formed` meets its contract: over the limit, not ascending, or the rest decides. Assumes nothing.
-use borrow.Author.Rules.{rules}
 use mathlib.Core.Path.{sym, ◌∙◌}
 use borrow.Author.Tests.{not-true, not-false}
 use lib.ListN.{length}

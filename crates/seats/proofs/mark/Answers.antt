@@ -2,9 +2,8 @@
 use borrow.Author.Rules.{rules}
 use Rattle.seats.proofs.Laws.{mark-there, mark-place, mark-none, mark-next}
 use mathlib.Core.Path.{◌≡◌}
-use Prim.Native.Nat.{◌<◌}
 use native.Mathlib.Omega.{arith}
-use lib.ListN.{length, get_or}
+use lib.ListN.{length}
 use Rattle.seats.proofs.mark.Goals as goal
 use Rattle.seats.proofs.mark.Goals.{then-p-m+else-touched-p, else-p-m}
 

@@ -3,9 +3,8 @@ use borrow.Author.Rules.{rules}
 use Rattle.seats.proofs.Laws.{mark-there, mark-none, mark-next}
 use Rattle.seats.specs.Seats.{mark_kept}
 use mathlib.Core.Path.{◌≡◌, refl, ap}
-use Prim.Native.Nat.{◌<◌}
 use native.Mathlib.Omega.{arith}
-use lib.ListN.{length, get_or}
+use lib.ListN.{length}
 use Rattle.seats.proofs.mark_no.Goals as goal
 use Rattle.seats.proofs.mark_no.Goals.{then-p-m+else-touched-p, else-p-m}
 

@@ -2,13 +2,11 @@
 -- Assumes nothing.
 use Rattle.sorted.proofs.Laws.{place-stop, place-on, place_end}
 use Rattle.frames.specs.Pages.{number}
-use Rattle.frames.specs.Inside.{below_in}
 use mathlib.Core.Path.{◌≡◌, sym}
-use Prim.Native.Nat.{◌+◌, ◌-◌, ◌≤◌}
 use native.Mathlib.Nat.{zero-add}
 use native.Mathlib.Omega.{arith}
 use borrow.Author.Rules.{rules}
-use lib.ListN.{length, take, drop}
+use lib.ListN.{length}
 use Rattle.seats.proofs.place.Goals as goal
 
 pub loop-i-init : goal.loop-i-init

@@ -1,14 +1,9 @@
 -- `seats::place` meets its contract. The loop's invariant: the place is what was passed and the place in what is left. The measure is how many are left.
 -- Assumes nothing.
-use Rattle.sorted.proofs.Laws.{place-stop, place-on, place_end}
-use Rattle.frames.specs.Pages.{number}
 use Rattle.frames.specs.Inside.{below_in}
-use mathlib.Core.Path.{◌≡◌, sym}
+use mathlib.Core.Path.{◌≡◌}
 use Prim.Native.Nat.{◌+◌, ◌-◌, ◌≤◌}
-use native.Mathlib.Nat.{zero-add}
-use native.Mathlib.Omega.{arith}
-use borrow.Author.Rules.{rules}
-use lib.ListN.{length, take, drop}
+use lib.ListN.{take, drop}
 use Rattle.seats.proofs.place.Given as goal
 
 abbrev pub invariant-loop-i : goal.invariant-loop-i

@@ -1,7 +1,6 @@
 -- `seats::shift` meets its contract. The loop's invariant: the pages from i to `to` have moved up by one. The measure is i. Assumes nothing.
-use Rattle.sorted.proofs.Laws.{moved, moved_none, moved_more, moved-put}
+use Rattle.sorted.proofs.Laws.{moved_none, moved_more, moved-put}
 use mathlib.Core.Path.{◌≡◌}
-use Prim.Native.Nat.{◌-◌, ◌≤◌}
 use native.Mathlib.Omega.{arith}
 use borrow.Author.Rules.{rules}
 use lib.ListN.{length}

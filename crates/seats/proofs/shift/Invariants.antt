@@ -1,10 +1,7 @@
 -- `seats::shift` meets its contract. The loop's invariant: the pages from i to `to` have moved up by one. The measure is i. Assumes nothing.
-use Rattle.sorted.proofs.Laws.{moved, moved_none, moved_more, moved-put}
+use Rattle.sorted.proofs.Laws.{moved}
 use mathlib.Core.Path.{◌≡◌}
 use Prim.Native.Nat.{◌-◌, ◌≤◌}
-use native.Mathlib.Omega.{arith}
-use borrow.Author.Rules.{rules}
-use lib.ListN.{length}
 use Rattle.seats.proofs.shift.Given as goal
 
 abbrev pub invariant-loop-i : goal.invariant-loop-i

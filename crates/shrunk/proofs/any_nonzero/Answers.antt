@@ -1,9 +1,6 @@
 -- `shrunk::any_nonzero` meets its contract: the bytes that are left give the answer; the measure is how many they are. Assumes nothing.
-use mathlib.Core.Path.{◌≡◌, refl, sym, ◌∙◌}
-use Prim.Native.Nat.{◌-◌, ◌≤◌}
+use mathlib.Core.Path.{refl, sym, ◌∙◌}
 use native.Mathlib.Omega.{arith}
-use lib.ListN.{length, drop}
-use Rattle.shrunk.specs.Form.{any_nonzero}
 use Rattle.shrunk.proofs.Ways.{nonzero-here, nonzero-on, nonzero-done}
 use Rattle.shrunk.proofs.any_nonzero.Goals as goal
 

@@ -1,10 +1,8 @@
 -- `shrunk::any_nonzero` meets its contract: the bytes that are left give the answer; the measure is how many they are. Assumes nothing.
-use mathlib.Core.Path.{◌≡◌, refl, sym, ◌∙◌}
+use mathlib.Core.Path.{◌≡◌}
 use Prim.Native.Nat.{◌-◌, ◌≤◌}
-use native.Mathlib.Omega.{arith}
 use lib.ListN.{length, drop}
 use Rattle.shrunk.specs.Form.{any_nonzero}
-use Rattle.shrunk.proofs.Ways.{nonzero-here, nonzero-on, nonzero-done}
 use Rattle.shrunk.proofs.any_nonzero.Given as goal
 
 abbrev pub invariant-loop-i : goal.invariant-loop-i

@@ -1,5 +1,4 @@
 -- `shrunk::bad_base` meets its contract. Assumes nothing.
-use mathlib.Core.Path.{◌≡◌, refl}
 use Prim.Native.Nat.{◌%◌}
 use borrow.Author.Tests.{eq-eqb, ne_eqb}
 use Rattle.shrunk.specs.Inside.{bad_base}

@@ -1,7 +1,6 @@
 -- `shrunk::base_in` meets its contract: a file that fits has its base within the limit. Assumes nothing.
-use mathlib.Core.Path.{◌≡◌, refl}
+use mathlib.Core.Path.{refl}
 use native.Mathlib.Omega.{arith}
-use borrow.Author.Rules.{rules}
 use Rattle.shrunk.specs.Form.{base_of}
 use Rattle.shrunk.proofs.FormLaws.{fits-means}
 use Rattle.shrunk.proofs.base_in.Goals as goal

@@ -1,6 +1,5 @@
 -- `shrunk::compact` meets its contract: where the file fits, clog's compaction is the call. Assumes nothing.
-use mathlib.Core.Path.{◌≡◌, sym, ap, ◌∙◌}
-use borrow.Author.Rules.{rules}
+use mathlib.Core.Path.{sym}
 use lib.Seq.{length-take-le}
 use Rattle.shrunk.proofs.Ways.{form-means, compacted-no, compacted-done}
 use Rattle.shrunk.proofs.compact.Goals as goal

@@ -1,7 +1,6 @@
 -- `shrunk::first_no` meets its contract: each test that fails decides. Assumes nothing.
-use mathlib.Core.Path.{◌≡◌, sym, ap, ◌∙◌}
+use mathlib.Core.Path.{sym}
 use native.Mathlib.Omega.{arith}
-use borrow.Author.Rules.{rules}
 use lib.Seq.{length-take-le}
 use Rattle.fields.specs.Files.{file_of}
 use Rattle.shrunk.specs.Calls.{first_no}

@@ -1,7 +1,5 @@
 -- `shrunk::form_no` meets its contract: each test that fails decides. Assumes nothing.
-use mathlib.Core.Path.{◌≡◌, refl, sym, ◌∙◌}
-use native.Mathlib.Omega.{arith}
-use borrow.Author.Rules.{rules}
+use mathlib.Core.Path.{sym, ◌∙◌}
 use lib.Seq.{length-take-le}
 use Rattle.fields.specs.Files.{file_of}
 use Rattle.fields.proofs.FileLaws.{fit-means}

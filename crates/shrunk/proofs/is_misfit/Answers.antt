@@ -1,7 +1,6 @@
 -- `shrunk::is_misfit` meets its contract: each test that fails decides. Assumes nothing.
-use mathlib.Core.Path.{◌≡◌, refl, sym, ap, ◌∙◌}
+use mathlib.Core.Path.{sym, ap, ◌∙◌}
 use native.Mathlib.Omega.{arith}
-use borrow.Author.Rules.{rules}
 use Rattle.shrunk.specs.Form.{base_of}
 use Rattle.shrunk.specs.Inside.{bad_base}
 use Rattle.shrunk.proofs.Ways.{misfit-short, misfit-states, misfit-version, misfit-base}

@@ -1,6 +1,5 @@
 -- `shrunk::load` meets its contract: where the file fits, clog's load is the call. Assumes nothing.
-use mathlib.Core.Path.{◌≡◌, sym, ap, ◌∙◌}
-use borrow.Author.Rules.{rules}
+use mathlib.Core.Path.{sym}
 use lib.Seq.{length-take-le}
 use Rattle.shrunk.proofs.Ways.{form-means, loaded-no, loaded-done}
 use Rattle.shrunk.proofs.load.Goals as goal

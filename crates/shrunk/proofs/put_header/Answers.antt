@@ -1,6 +1,5 @@
 -- `shrunk::put_header` meets its contract: the three fields, one after the other. Assumes nothing.
-use mathlib.Core.Path.{◌≡◌, sym, ap, ◌∙◌}
-use borrow.Author.Rules.{rules}
+use mathlib.Core.Path.{◌∙◌}
 use lib.ListN.{length-set}
 use Rattle.shrunk.proofs.Ways.{header-laid}
 use Rattle.shrunk.proofs.put_header.Goals as goal

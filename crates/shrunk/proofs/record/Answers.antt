@@ -1,7 +1,6 @@
 -- `shrunk::record` meets its contract: a law of proofs/Ways.antt for each way out; a record tells a length where it is accepted, and only there. Assumes nothing.
-use mathlib.Core.Path.{◌≡◌, sym, ap, ◌∙◌}
+use mathlib.Core.Path.{sym, ◌∙◌}
 use native.Mathlib.Omega.{arith}
-use borrow.Author.Rules.{rules}
 use lib.Seq.{length-take-le}
 use Rattle.clog.specs.Slots.{code_of}
 use Rattle.shrunk.proofs.Ways.{form-means, recorded-no, refused-told, told-length, accepted-told}

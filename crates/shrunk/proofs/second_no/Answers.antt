@@ -1,14 +1,12 @@
 -- `shrunk::second_no` meets its contract: each test that fails decides. Assumes nothing.
-use mathlib.Core.Path.{◌≡◌, sym, ap, ◌∙◌}
-use Prim.Native.Nat.{ℕ, ◌+◌, ◌-◌, ◌/◌}
+use mathlib.Core.Path.{sym, ap, ◌∙◌}
+use Prim.Native.Nat.{◌-◌}
 use native.Mathlib.Omega.{arith}
-use borrow.Author.Rules.{rules}
-use lib.ListN.{take, drop}
 use lib.Seq.{length-take-le}
 use borrow.Author.Tests.{not-true, not-false}
 use Rattle.clog.specs.Slots.{clog_magic}
 use Rattle.clog.proofs.Refusals.{fit-means}
-use Rattle.shrunk.specs.Form.{base_under, any_nonzero}
+use Rattle.shrunk.specs.Form.{any_nonzero}
 use Rattle.shrunk.proofs.MoveLaws.{under-is, under-within, under-most}
 use Rattle.shrunk.proofs.Ways.{second-unfit, second-magic, second_below, second_short, second-room, below-part}
 use Rattle.shrunk.proofs.second_no.Goals as goal

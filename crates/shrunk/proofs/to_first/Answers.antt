@@ -1,8 +1,6 @@
 -- `shrunk::to_first` meets its contract: a law of proofs/Ways.antt for each way out. Assumes nothing.
-use mathlib.Core.Path.{◌≡◌, sym, ap, ◌∙◌}
-use Prim.Native.Nat.{ℕ, ◌+◌, ◌-◌, ◌/◌}
+use mathlib.Core.Path.{sym}
 use native.Mathlib.Omega.{arith}
-use borrow.Author.Rules.{rules}
 use lib.Seq.{length-take-le}
 use Rattle.fields.specs.Files.{file_of}
 use Rattle.clog.specs.Slots.{clog_magic}

@@ -1,9 +1,8 @@
 -- `shrunk::to_second` meets its contract: a law of proofs/Ways.antt for each way out. Assumes nothing.
-use mathlib.Core.Path.{◌≡◌, sym, ap, ◌∙◌}
+use mathlib.Core.Path.{◌∙◌}
 use Prim.Native.Nat.{◌-◌}
 use native.Mathlib.Omega.{arith}
-use borrow.Author.Rules.{rules}
-use lib.ListN.{length, take}
+use lib.ListN.{take}
 use Rattle.shrunk.specs.Calls.{moved_second}
 use Rattle.shrunk.proofs.MoveLaws.{under-is, under-within, under-most, length-second}
 use Rattle.shrunk.proofs.Ways.{second-means, second-done, move-no}

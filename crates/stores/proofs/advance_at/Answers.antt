@@ -1,10 +1,9 @@
 -- `stores::advance_at` meets its contract: place by place. Assumes nothing.
 use Rattle.stores.proofs.PlanLaws.{advance-meta}
-use mathlib.Core.Path.{◌≡◌, refl, sym, ◌∙◌}
+use mathlib.Core.Path.{◌≡◌, sym, ◌∙◌}
 use Rattle.stores.specs.Plans.{advance_steps}
 use native.Mathlib.Omega.{arith}
-use Prim.Native.Nat.{suc, ◌+◌, ◌-◌}
-use borrow.Author.Rules.{rules}
+use Prim.Native.Nat.{◌-◌}
 use Rattle.stores.proofs.advance_at.Goals as goal
 
 pub returns-then-k-eq0 : goal.returns-then-k-eq0

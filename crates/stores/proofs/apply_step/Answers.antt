@@ -1,17 +1,13 @@
 -- `stores::apply_step` meets its contract: store by store, the call on its file is accepted because there is room. Assumes nothing.
 use Rattle.stores.proofs.StepLaws.{image-room, log-file, log-done, db-file, slot-done, compact-done, truncate-done}
 use Rattle.stores.specs.Plans.{meaning}
-use Rattle.world.specs.Steps as world
-use Rattle.world.specs.World.{Files, files_of}
+use Rattle.world.specs.World.{files_of}
 use Rattle.world.specs.declared.Lens.{Lens}
 use Rattle.frames.proofs.CopyLaws.{length-frame}
 use Rattle.frames.specs.Copies.{frame_of}
 use Rattle.meta.specs.Page.{meta_page}
 use Rattle.wal.specs.Records.{image, begin, commit, abort, checkpoint}
-use mathlib.Core.List.{List}
-use Prim.Native.Nat.{ℕ}
 use mathlib.Core.Path.{refl, ap, ◌∙◌}
-use borrow.Author.Rules.{rules}
 use Rattle.stores.proofs.apply_step.Goals as goal
 
 pub put_image-requires : goal.put_image-requires

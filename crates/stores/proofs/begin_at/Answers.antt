@@ -1,8 +1,8 @@
 -- `stores::begin_at` meets its contract: place by place. Assumes nothing.
 use Rattle.stores.specs.Plans.{begin_steps}
 use native.Mathlib.Omega.{arith}
-use Prim.Native.Nat.{suc, ◌+◌, ◌-◌}
-use mathlib.Core.Path.{◌≡◌, refl}
+use Prim.Native.Nat.{suc, ◌-◌}
+use mathlib.Core.Path.{◌≡◌}
 use Rattle.stores.proofs.begin_at.Goals as goal
 
 pub returns-then-k-eq0 : goal.returns-then-k-eq0

@@ -1,13 +1,10 @@
 -- `stores::carry` meets its contract. The invariant: the stores that are left have room, and carrying them out gives the result. Assumes nothing.
-use mathlib.Core.Path.{◌≡◌, refl, sym, ◌∙◌}
-use Prim.Native.Nat.{ℕ, ◌+◌, ◌-◌, ◌≤◌, ◌<◌}
+use mathlib.Core.Path.{refl, sym, ◌∙◌}
+use Prim.Native.Nat.{◌<◌}
 use native.Mathlib.Omega.{arith}
-use borrow.Author.Rules.{rules}
-use lib.ListN.{length, take, drop}
-use Rattle.world.specs.World.{Files, files_of}
-use Rattle.world.specs.Steps.{apply_all}
-use Rattle.stores.specs.Plans.{steps_of, meant}
-use Rattle.stores.specs.Inside.{Enough}
+use lib.ListN.{length}
+use Rattle.world.specs.World.{files_of}
+use Rattle.stores.specs.Plans.{steps_of}
 use Rattle.stores.proofs.RoomLaws.{carry-end, carry-room, carry-next, carry-turn}
 use Rattle.stores.proofs.carry.Goals as goal
 

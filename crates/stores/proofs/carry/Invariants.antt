@@ -1,14 +1,11 @@
 -- `stores::carry` meets its contract. The invariant: the stores that are left have room, and carrying them out gives the result. Assumes nothing.
-use mathlib.Core.Path.{◌≡◌, refl, sym, ◌∙◌}
-use Prim.Native.Nat.{ℕ, ◌+◌, ◌-◌, ◌≤◌, ◌<◌}
-use native.Mathlib.Omega.{arith}
-use borrow.Author.Rules.{rules}
+use mathlib.Core.Path.{◌≡◌}
+use Prim.Native.Nat.{◌-◌}
 use lib.ListN.{length, take, drop}
-use Rattle.world.specs.World.{Files, files_of}
+use Rattle.world.specs.World.{files_of}
 use Rattle.world.specs.Steps.{apply_all}
-use Rattle.stores.specs.Plans.{steps_of, meant}
+use Rattle.stores.specs.Plans.{meant}
 use Rattle.stores.specs.Inside.{Enough}
-use Rattle.stores.proofs.RoomLaws.{carry-end, carry-room, carry-next, carry-turn}
 use Rattle.stores.proofs.carry.Given as goal
 
 abbrev pub invariant-loop-i : goal.invariant-loop-i

@@ -1,14 +1,10 @@
 -- `stores::carry_on` meets its contract: refused, or carried out. Assumes nothing.
 -- the files at entry, the stores that are left, and the number that was found
-use Rattle.stores.specs.Room.{number_for}
-use Rattle.world.specs.Steps as world
-use mathlib.Core.List.{List}
-use mathlib.Core.Path.{◌≡◌, sym, ◌∙◌}
-use Prim.Native.Nat.{ℕ, ◌-◌}
+use mathlib.Core.Path.{sym, ◌∙◌}
+use Prim.Native.Nat.{◌-◌}
 use lib.Dec.{lit≤}
 use lib.ListN.{drop}
-use borrow.Author.Rules.{rules}
-use Rattle.world.specs.World.{Files, files_of}
+use Rattle.world.specs.World.{files_of}
 use Rattle.stores.specs.Plans.{meant}
 use Rattle.stores.proofs.RoomLaws.{number_is, accepted-enough, carried-refused, carried-done}
 use Rattle.stores.proofs.carry_on.Goals as goal

@@ -1,7 +1,6 @@
 -- `stores::cost` meets its contract: store by store. Assumes nothing.
 use Rattle.stores.specs.Inside.{cost_of}
 use mathlib.Core.Path.{sym, ap, ◌∙◌}
-use borrow.Author.Rules.{rules}
 use Rattle.stores.proofs.cost.Goals as goal
 
 pub returns-in-LogImage : goal.returns-in-LogImage

@@ -5,7 +5,6 @@ use Rattle.stores.specs.Plans.{begin_steps, advance_steps}
 use lib.ListN.{length}
 use native.Mathlib.Omega.{arith}
 use mathlib.Core.Path.{sym, ap, ◌∙◌}
-use borrow.Author.Rules.{rules}
 use Rattle.stores.proofs.count.Goals as goal
 
 pub returns-then-n-eq0 : goal.returns-then-n-eq0

@@ -2,8 +2,7 @@
 use Rattle.stores.proofs.PlanLaws.{flush-image, flush-page, flush-past}
 use native.Mathlib.Omega.{arith}
 use Prim.Native.Nat.{◌-◌}
-use mathlib.Core.Path.{◌≡◌, sym}
-use borrow.Author.Rules.{rules}
+use mathlib.Core.Path.{sym}
 use Rattle.stores.proofs.flush_at.Goals as goal
 
 pub returns-then-k-n : goal.returns-then-k-n

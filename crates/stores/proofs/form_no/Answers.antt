@@ -2,8 +2,7 @@
 use Rattle.stores.specs.Room.{form_no}
 use borrow.Author.Tests.{le-ltb, lt-ltb}
 use native.Mathlib.Omega.{arith}
-use mathlib.Core.Path.{◌≡◌, sym, ◌∙◌}
-use borrow.Author.Rules.{rules}
+use mathlib.Core.Path.{sym, ◌∙◌}
 use Rattle.stores.proofs.form_no.Goals as goal
 
 pub returns-then-is_unfit : goal.returns-then-is_unfit

@@ -3,7 +3,6 @@ use Rattle.stores.specs.Inside.{lens, lens_after}
 use Rattle.stores.specs.declared.Step.{Step}
 use Prim.Native.Nat.{ℕ}
 use mathlib.Core.Path.{sym, ap, ◌∙◌}
-use borrow.Author.Rules.{rules}
 use Rattle.stores.proofs.lens_after.Goals as goal
 
 pub returns-in-LogImage : goal.returns-in-LogImage

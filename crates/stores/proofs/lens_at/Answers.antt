@@ -1,9 +1,8 @@
 -- `stores::lens_at` meets its contract. The invariant: what is told of the stores that are left is told of them all; the log's length stays small. Assumes nothing.
 use mathlib.Core.Path.{◌≡◌, ap, ◌∙◌}
 use mathlib.Core.List.{[], ◌∷◌}
-use Prim.Native.Nat.{ℕ, ◌+◌, ◌-◌, ◌*◌, ◌≤◌, ◌<◌}
+use Prim.Native.Nat.{ℕ, ◌+◌, ◌-◌, ◌<◌}
 use native.Mathlib.Omega.{arith}
-use borrow.Author.Rules.{rules}
 use lib.ListN.{length, drop, get_or}
 use Rattle.world.specs.declared.Lens.{Lens}
 use Rattle.stores.specs.declared.Step.TheVariants.{Truncate}

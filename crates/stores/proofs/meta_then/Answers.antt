@@ -1,7 +1,7 @@
 -- `stores::meta_then` meets its contract: place by place. Assumes nothing.
 use native.Mathlib.Omega.{arith}
-use Prim.Native.Nat.{suc, ◌+◌, ◌-◌}
-use mathlib.Core.Path.{◌≡◌, refl}
+use Prim.Native.Nat.{suc, ◌-◌}
+use mathlib.Core.Path.{◌≡◌}
 use Rattle.stores.proofs.meta_then.Goals as goal
 
 pub returns-then-j-eq0 : goal.returns-then-j-eq0

@@ -1,19 +1,15 @@
 -- `stores::needed` meets its contract. The invariant: what is counted and what the rest needs make up the whole; the sum stays small. Assumes nothing.
 use Rattle.stores.proofs.RoomLaws.{cost-most, log-turn, db-turn, clog-turn, needs-none}
 use Rattle.stores.proofs.PlanLaws.{most-steps}
-use Rattle.stores.specs.Inside.{cost_of, needs_of}
 use Rattle.stores.specs.Plans.{steps_of, meant}
 use Rattle.stores.specs.declared.Needs.{Needs}
 use Rattle.world.specs.Steps.{log_bytes, db_end, clog_end, sum_of, most_of}
-use mir.Val.{Fits}
-use mir.Syntax.{w64}
 use lib.ListN.{length, drop}
 use lib.Dec.{lit≤}
-use borrow.Author.Rules.{rules}
 use native.Mathlib.Omega.{arith}
-use Prim.Native.Nat.{ℕ, ◌+◌, ◌-◌, ◌*◌, ◌≤◌, ◌<◌, max}
+use Prim.Native.Nat.{◌+◌, ◌*◌, ◌≤◌, ◌<◌}
 use mathlib.Core.List.{[]}
-use mathlib.Core.Path.{◌≡◌, refl, sym, ap, ◌∙◌}
+use mathlib.Core.Path.{◌≡◌, ap, ◌∙◌}
 use Rattle.stores.proofs.needed.Goals as goal
 
 pub loop-i-init : goal.loop-i-init

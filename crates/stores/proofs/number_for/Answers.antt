@@ -1,9 +1,8 @@
 -- `stores::number_for` meets its contract: form first, then room. Assumes nothing.
-use mathlib.Core.Path.{◌≡◌, sym, ap, ap₂, ◌∙◌}
+use mathlib.Core.Path.{◌≡◌, sym, ap, ◌∙◌}
 use mathlib.Core.List.{[]}
 use Prim.Native.Nat.{ℕ}
 use lib.ListN.{drop}
-use borrow.Author.Rules.{rules}
 use Rattle.world.specs.Refusals.{or_else}
 use Rattle.stores.specs.declared.Needs.{Needs}
 use Rattle.stores.specs.Plans.{meant}

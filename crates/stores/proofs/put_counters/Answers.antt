@@ -3,7 +3,6 @@ use Rattle.stores.proofs.StepLaws.{meta-file}
 use Rattle.meta.proofs.Laws.{length-meta}
 use Rattle.meta.specs.Page.{meta_page}
 use lib.Dec.{lit≤}
-use borrow.Author.Rules.{rules}
 use Rattle.stores.proofs.put_counters.Goals as goal
 
 pub returns : goal.returns

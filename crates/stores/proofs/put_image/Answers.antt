@@ -4,8 +4,7 @@ use Rattle.wal.proofs.WriteLaws.{page-laid}
 use Rattle.frames.proofs.CopyLaws.{length-frame}
 use Rattle.frames.specs.Copies.{frame_of}
 use lib.ListN.{length-set}
-use mathlib.Core.Path.{◌≡◌, ◌∙◌}
-use borrow.Author.Rules.{rules}
+use mathlib.Core.Path.{◌∙◌}
 use Rattle.stores.proofs.put_image.Goals as goal
 
 pub shape_of-log : goal.shape_of-log

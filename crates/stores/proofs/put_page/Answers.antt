@@ -3,7 +3,6 @@ use Rattle.stores.proofs.StepLaws.{page-file}
 use Rattle.frames.proofs.CopyLaws.{length-frame}
 use Rattle.frames.specs.Copies.{frame_of}
 use Prim.Native.Nat.{◌*◌}
-use borrow.Author.Rules.{rules}
 use Rattle.stores.proofs.put_page.Goals as goal
 
 pub returns : goal.returns

@@ -4,7 +4,6 @@ use Rattle.stores.specs.Plans.{rollback_steps}
 use native.Mathlib.Omega.{arith}
 use Prim.Native.Nat.{suc, ◌+◌, ◌-◌, ◌*◌}
 use mathlib.Core.Path.{◌≡◌, sym, ◌∙◌}
-use borrow.Author.Rules.{rules}
 use Rattle.stores.proofs.rollback_at.Goals as goal
 
 pub returns-then-k-lt1 : goal.returns-then-k-lt1

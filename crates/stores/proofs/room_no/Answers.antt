@@ -1,7 +1,6 @@
 -- `stores::room_no` meets its contract: the frame buffer has no part in the number. Assumes nothing.
 use mathlib.Core.Path.{◌∙◌}
 use lib.Dec.{lit≤}
-use borrow.Author.Rules.{rules}
 use Rattle.world.specs.World.{files_of}
 use Rattle.stores.proofs.RoomLaws.{number_is}
 use Rattle.stores.proofs.room_no.Goals as goal

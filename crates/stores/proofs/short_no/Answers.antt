@@ -3,7 +3,6 @@ use Rattle.stores.specs.Inside.{short_no}
 use borrow.Author.Tests.{le-ltb, lt-ltb}
 use native.Mathlib.Omega.{arith}
 use Prim.Native.Nat.{◌+◌}
-use borrow.Author.Rules.{rules}
 use Rattle.stores.proofs.short_no.Goals as goal
 
 pub returns-then-log-len : goal.returns-then-log-len

@@ -6,7 +6,6 @@ use Rattle.stores.specs.declared.Step.{Step}
 use lib.ListN.{get_or}
 use mathlib.Core.List.{List}
 use mathlib.Core.Path.{sym, ap, ◌∙◌}
-use borrow.Author.Rules.{rules}
 use Rattle.stores.proofs.step_at.Goals as goal
 
 pub returns-in-Nothing : goal.returns-in-Nothing

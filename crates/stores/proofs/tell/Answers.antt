@@ -5,10 +5,9 @@ use Rattle.stores.specs.Inside.{told_by}
 use Rattle.stores.specs.declared.Step.{Step}
 use lib.Dec.{lit≤}
 use native.Mathlib.Omega.{arith}
-use Prim.Native.Nat.{ℕ, ◌-◌, suc}
+use Prim.Native.Nat.{◌-◌}
 use mathlib.Core.List.{[], ◌∷◌}
-use mathlib.Core.Path.{◌≡◌, sym, ap, ◌∙◌}
-use borrow.Author.Rules.{rules}
+use mathlib.Core.Path.{ap, ◌∙◌}
 use Rattle.stores.proofs.tell.Goals as goal
 
 pub returns-then-lens-gt-BUFFER_LIMIT : goal.returns-then-lens-gt-BUFFER_LIMIT

@@ -5,7 +5,6 @@ use Rattle.stores.specs.declared.Step.{Step}
 use Prim.Native.Nat.{ℕ}
 use mathlib.Core.List.{[], ◌∷◌}
 use mathlib.Core.Path.{sym, ap, ◌∙◌}
-use borrow.Author.Rules.{rules}
 use Rattle.stores.proofs.told_of.Goals as goal
 
 pub returns-in-LogImage : goal.returns-in-LogImage

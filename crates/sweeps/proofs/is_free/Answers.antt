@@ -1,11 +1,7 @@
 -- `sweeps::is_free` meets its contract. By the lengths, then by the number. Assumes nothing.
-use borrow.Author.Rules.{rules}
-use mathlib.Core.Path.{◌≡◌, refl}
-use mathlib.Core.Bool.{false}
 use Prim.Native.Nat.{◌+◌}
 use native.Mathlib.Omega.{arith}
 use lib.ListN.{length}
-use lib.Dec.{leb}
 use borrow.Author.Tests.{lt-leb, le-leb}
 use Rattle.sweeps.specs.Inside.{free}
 use Rattle.sweeps.proofs.is_free.Goals as goal

@@ -1,11 +1,7 @@
 -- `sweeps::list_in` meets its contract. The loop's invariant: setting the entries that are left gives what setting all gives. The measure is how many bytes are left. Assumes nothing.
-use borrow.Author.Rules.{rules}
-use mathlib.Core.Path.{◌≡◌, refl, sym, ap, ◌∙◌}
-use Prim.Native.Nat.{◌+◌, ◌*◌, ◌-◌, ◌≤◌}
+use Prim.Native.Nat.{◌*◌, ◌-◌}
 use native.Mathlib.Omega.{arith}
-use lib.ListN.{length, drop}
-use Rattle.rows.specs.Rows.{rowed, rowed_as, set_all}
-use Rattle.clog.specs.Slots.{codes, entries_from, entries_in}
+use Rattle.rows.specs.Rows.{rowed}
 use Rattle.sweeps.proofs.Laws.{list-start, list-turn, list-end}
 use Rattle.sweeps.proofs.list_in.Goals as goal
 

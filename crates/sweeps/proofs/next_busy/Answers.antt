@@ -1,10 +1,6 @@
 -- `sweeps::next_busy` meets its contract. The loop's invariant: where the bytes that are not 0 begin is the same from i on. The measure is how many bytes are left. Assumes nothing.
-use borrow.Author.Rules.{rules}
-use mathlib.Core.Path.{◌≡◌, refl, sym, ◌∙◌}
-use Prim.Native.Nat.{◌+◌, ◌-◌, ◌≤◌}
+use mathlib.Core.Path.{◌∙◌}
 use native.Mathlib.Omega.{arith}
-use lib.ListN.{length}
-use Rattle.sweeps.specs.Inside.{busy_from}
 use Rattle.sweeps.proofs.Zeros.{busy-stop, busy-on, busy-end}
 use Rattle.sweeps.proofs.next_busy.Goals as goal
 

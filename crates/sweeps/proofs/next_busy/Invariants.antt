@@ -1,11 +1,8 @@
 -- `sweeps::next_busy` meets its contract. The loop's invariant: where the bytes that are not 0 begin is the same from i on. The measure is how many bytes are left. Assumes nothing.
-use borrow.Author.Rules.{rules}
-use mathlib.Core.Path.{◌≡◌, refl, sym, ◌∙◌}
-use Prim.Native.Nat.{◌+◌, ◌-◌, ◌≤◌}
-use native.Mathlib.Omega.{arith}
+use mathlib.Core.Path.{◌≡◌}
+use Prim.Native.Nat.{◌-◌, ◌≤◌}
 use lib.ListN.{length}
 use Rattle.sweeps.specs.Inside.{busy_from}
-use Rattle.sweeps.proofs.Zeros.{busy-stop, busy-on, busy-end}
 use Rattle.sweeps.proofs.next_busy.Given as goal
 
 abbrev pub invariant-loop-i : goal.invariant-loop-i

@@ -1,6 +1,4 @@
 -- `sweeps::next_place` meets its contract. Assumes nothing.
-use borrow.Author.Rules.{rules}
-use mathlib.Core.Path.{◌≡◌, sym, ◌∙◌}
 use borrow.Author.Tests.{eq-eqb, ne_eqb}
 use Rattle.sweeps.specs.Inside.{next_from}
 use Rattle.sweeps.proofs.next_place.Goals as goal

@@ -1,5 +1,4 @@
 -- `sweeps::note_byte` meets its contract: slot by slot. Assumes nothing.
-use borrow.Author.Rules.{rules}
 use Rattle.rows.specs.Rows.{rowed}
 use Rattle.sweeps.proofs.Laws.{byte-set}
 use Rattle.sweeps.proofs.note_byte.Goals as goal

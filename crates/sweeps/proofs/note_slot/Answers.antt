@@ -1,6 +1,5 @@
 -- `sweeps::note_slot` meets its contract: no entry for a slot that is 0, else one. Assumes nothing.
-use borrow.Author.Rules.{rules}
-use mathlib.Core.Path.{◌≡◌, sym, ap, ◌∙◌}
+use mathlib.Core.Path.{ap, ◌∙◌}
 use Rattle.table.specs.declared.Status.{Status}
 use Rattle.rows.specs.Rows.{rowed, held_row}
 use Rattle.sweeps.proofs.Laws.{slot-none, slot-one}

@@ -1,10 +1,6 @@
 -- `sweeps::past_free` meets its contract. The loop's invariant: where the bytes that are not 0 begin is the same from i on. The measure is how many bytes are left. Assumes nothing.
-use borrow.Author.Rules.{rules}
-use mathlib.Core.Path.{◌≡◌, refl, sym, ◌∙◌}
-use Prim.Native.Nat.{◌+◌, ◌-◌, ◌≤◌}
+use mathlib.Core.Path.{refl, sym, ◌∙◌}
 use native.Mathlib.Omega.{arith}
-use lib.ListN.{length}
-use Rattle.sweeps.specs.Inside.{free, busy_from}
 use Rattle.sweeps.proofs.Zeros.{free-fits, busy-free}
 use Rattle.sweeps.proofs.past_free.Goals as goal
 

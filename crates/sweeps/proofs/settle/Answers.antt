@@ -1,5 +1,4 @@
 -- `sweeps::settle` meets its contract. Assumes nothing.
-use borrow.Author.Rules.{rules}
 use native.Mathlib.Omega.{arith}
 use Rattle.sweeps.proofs.Laws.{settled-long, settled-short}
 use Rattle.sweeps.proofs.settle.Goals as goal

@@ -1,14 +1,10 @@
 -- `sweeps::settle_in` meets its contract. The loop's invariant: settling what is left gives what was asked for. The measure is how many bytes are left. Assumes nothing.
-use borrow.Author.Rules.{rules}
-use mathlib.Core.Path.{◌≡◌, refl, sym, ap, ◌∙◌}
-use mathlib.Core.List.{map}
-use Prim.Native.Nat.{◌+◌, ◌-◌, ◌≤◌}
+use mathlib.Core.Path.{refl, sym, ◌∙◌}
+use Prim.Native.Nat.{◌+◌}
 use native.Mathlib.Omega.{arith}
-use lib.ListN.{length, take, set, length-set}
-use lib.Seq.{sets, slice, length-take-le}
-use Rattle.clog.specs.Slots.{settled_byte}
+use lib.ListN.{take, set, length-set}
+use lib.Seq.{length-take-le}
 use Rattle.clog.proofs.Ways.{settle-turn, settle-end}
-use Rattle.sweeps.specs.Inside.{busy_from}
 use Rattle.sweeps.proofs.Zeros.{busy-within}
 use Rattle.sweeps.proofs.Laws.{settle-skip}
 use Rattle.sweeps.proofs.settle_in.Goals as goal

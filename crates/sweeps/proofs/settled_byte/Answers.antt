@@ -1,5 +1,4 @@
 -- `sweeps::settled_byte` meets its contract: the four slots settled and put together. Assumes nothing.
-use borrow.Author.Rules.{rules}
 use Rattle.clog.proofs.FourSlots.{settled-made}
 use Rattle.sweeps.proofs.settled_byte.Goals as goal
 

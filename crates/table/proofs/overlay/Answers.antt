@@ -1,6 +1,6 @@
 -- `table::overlay` meets its contract. The loop's invariant is `Carried` of proofs/Laws.antt: setting what is left in the table carried gives what setting all
 -- in the first one gives. The measure is how many are left. Assumes nothing.
-use Prim.Native.Nat.{◌≤◌, ◌-◌, ◌+◌}
+use Prim.Native.Nat.{◌+◌}
 use mathlib.Core.Path.{◌≡◌}
 use native.Mathlib.Omega.{arith}
 use borrow.Author.Rules.{rules}

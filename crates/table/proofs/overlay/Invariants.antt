@@ -1,14 +1,9 @@
 -- `table::overlay` meets its contract. The loop's invariant is `Carried` of proofs/Laws.antt: setting what is left in the table carried gives what setting all
 -- in the first one gives. The measure is how many are left. Assumes nothing.
-use Prim.Native.Nat.{◌≤◌, ◌-◌, ◌+◌}
-use mathlib.Core.Path.{◌≡◌}
-use native.Mathlib.Omega.{arith}
-use borrow.Author.Rules.{rules}
-use mathlib.Core.List.{◌∷◌}
-use lib.ListN.{length, drop, get_or}
-use Rattle.sorted.proofs.Laws.{front, done, length-of-mapped}
-use Rattle.table.specs.Entries.{list_of, blank}
-use Rattle.table.proofs.Laws.{Carried, carried_none, carried-more, carried-stop, carried-all}
+use Prim.Native.Nat.{◌≤◌, ◌-◌}
+use lib.ListN.{drop}
+use Rattle.table.specs.Entries.{list_of}
+use Rattle.table.proofs.Laws.{Carried}
 use Rattle.table.proofs.overlay.Given as goal
 
 abbrev pub invariant-loop-i : goal.invariant-loop-i

@@ -1,9 +1,7 @@
 -- `table::with_status` meets its contract: each of its three ways out is a law of proofs/Laws.antt. Assumes nothing.
 use mathlib.Core.Path.{◌≡◌}
-use mathlib.Core.Logic.{⊎_elim}
-use Prim.Native.Nat.{◌<◌}
 use native.Mathlib.Omega.{arith}
-use lib.ListN.{length, get_or}
+use lib.ListN.{length}
 use Rattle.sorted.proofs.Laws.{length-of-mapped, place-held}
 use Rattle.table.specs.Entries.{blank, id_of}
 use Rattle.table.proofs.Laws.{with-hit, with-full, with-new}

@@ -1,12 +1,7 @@
 -- `xacts::has_slot` meets its contract. The loop's invariant: asking the slots that are left gives what was asked for; `left` is how many of them do not
 -- count. The measure is how many bytes are left. Assumes nothing.
-use mathlib.Core.Path.{◌≡◌, refl, sym, ◌∙◌}
-use Prim.Native.Nat.{◌-◌, ◌≤◌}
+use mathlib.Core.Path.{refl, sym, ◌∙◌}
 use native.Mathlib.Omega.{arith}
-use borrow.Author.Rules.{rules}
-use lib.ListN.{length, drop}
-use Rattle.clog.specs.Slots.{codes}
-use Rattle.xacts.specs.Calls.{has}
 use Rattle.xacts.proofs.Slots.{found_here, found-later, found_nowhere}
 use Rattle.xacts.proofs.has_slot.Goals as goal
 

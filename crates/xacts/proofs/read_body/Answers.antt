@@ -1,12 +1,9 @@
 -- `xacts::read_body` meets its contract. The loop's invariant: writing what is left gives what was asked for.
 -- The measure is how many bytes are left. Assumes nothing.
-use mathlib.Core.Path.{◌≡◌, refl, sym, ◌∙◌}
-use Prim.Native.Nat.{◌-◌, ◌*◌, ◌≤◌}
+use mathlib.Core.Path.{refl, sym, ◌∙◌}
 use native.Mathlib.Omega.{arith}
-use borrow.Author.Rules.{rules}
-use lib.ListN.{length, drop, length-set}
-use lib.Seq.{sets}
-use Rattle.xacts.specs.Pages.{read_as, remade, body_from}
+use lib.ListN.{length-set}
+use Rattle.xacts.specs.Pages.{read_as, body_from}
 use Rattle.xacts.proofs.Remade.{remade-turn, remade-end}
 use Rattle.xacts.proofs.read_body.Goals as goal
 

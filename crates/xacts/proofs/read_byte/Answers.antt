@@ -2,7 +2,6 @@
 use mathlib.Core.Path.{◌∙◌}
 use Rattle.xacts.specs.Pages.{read_as}
 use Rattle.xacts.proofs.Remade.{four-read}
-use borrow.Author.Rules.{rules}
 use Rattle.xacts.proofs.read_byte.Goals as goal
 
 pub returns : goal.returns

@@ -2,7 +2,6 @@
 use mathlib.Core.Path.{◌∙◌}
 use borrow.Author.Tests.{eq-eqb, ne_eqb}
 use Rattle.xacts.specs.Calls.{read_no}
-use borrow.Author.Rules.{rules}
 use Rattle.xacts.proofs.read_no.Goals as goal
 
 pub returns-then-pages-ne0 : goal.returns-then-pages-ne0

@@ -1,6 +1,5 @@
 -- `xacts::read_pages` meets its contract: a law of proofs/Ways.antt for each way out; that the number is 0 says that the output has room. Assumes nothing.
 use Rattle.xacts.proofs.Ways.{read_fits, back-no, back_done}
-use borrow.Author.Rules.{rules}
 use Rattle.xacts.proofs.read_pages.Goals as goal
 
 pub returns-then-no-ne-ACCEPTED : goal.returns-then-no-ne-ACCEPTED

@@ -1,7 +1,6 @@
 -- `xacts::whole_pages` meets its contract. Assumes nothing.
 use native.Mathlib.Omega.{arith}
 use Rattle.xacts.specs.Pages.{whole_pages}
-use borrow.Author.Rules.{rules}
 use Rattle.xacts.proofs.whole_pages.Goals as goal
 
 pub returns : goal.returns

@@ -1,12 +1,10 @@
 -- `xacts::write_body` meets its contract. The loop's invariant: writing what is left gives what was asked for.
 -- The measure is how many bytes are left. Assumes nothing.
-use mathlib.Core.Path.{◌≡◌, refl, sym, ◌∙◌}
+use mathlib.Core.Path.{◌≡◌}
 use Prim.Native.Nat.{◌-◌, ◌*◌, ◌≤◌}
-use native.Mathlib.Omega.{arith}
-use lib.ListN.{length, drop, length-set}
+use lib.ListN.{length, drop}
 use lib.Seq.{sets}
 use Rattle.xacts.specs.Pages.{written_as, remade}
-use Rattle.xacts.proofs.Remade.{remade-turn, remade-end}
 use Rattle.xacts.proofs.write_body.Given as goal
 
 abbrev pub invariant-loop-i : goal.invariant-loop-i

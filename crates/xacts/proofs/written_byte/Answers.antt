@@ -2,7 +2,6 @@
 use mathlib.Core.Path.{◌∙◌}
 use Rattle.xacts.specs.Pages.{written_as}
 use Rattle.xacts.proofs.Remade.{four-read}
-use borrow.Author.Rules.{rules}
 use Rattle.xacts.proofs.written_byte.Goals as goal
 
 pub returns : goal.returns
