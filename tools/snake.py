@@ -10,7 +10,7 @@ files that are turned here.
 import os
 import re
 
-TOKEN = re.compile(r"(?<![0-9A-Za-z_])[A-Za-z_][A-Za-z0-9_'₀-₉ℕ-]*")
+TOKEN = re.compile(r"(?<![0-9A-Za-z_\\])[A-Za-z_][A-Za-z0-9_'₀-₉ℕ-]*")
 # names of the library
 KEEP = re.compile(r"_(Lawful|Tells|Makes|Meets)$")
 # the library's older word for its get_or, inside a name

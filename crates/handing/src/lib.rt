@@ -1,5 +1,7 @@
 // The call that hands a store's table out into a lent slice of entries. It makes the tests of 1 and 14 that every call makes first, then 13, and changes no store and
 // no buffer.
+#![tactic(auto)]
+
 ghost use Rattle.std.specs.Prelude.{◌≡◌};
 ghost use Rattle.hands.specs.Handing.{handed_as};
 ghost use Rattle.handing.specs.Tables.{table_handed};

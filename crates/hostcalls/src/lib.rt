@@ -36,8 +36,7 @@ fn number_of(v: Verdict) -> u8
 }
 
 // A refused opening leaves every word of the store. It tells the database's length where images are laid, else 0.
-#[unsafe(no_mangle)]
-pub extern "C" fn nyotmelang_pager_open(
+pub fn nyotmelang_pager_open(
     head: &mut [u64; 12],
     rows: &mut [[u64; 3]; 256],
     resident: &mut [u32; 64],
@@ -67,8 +66,7 @@ pub extern "C" fn nyotmelang_pager_open(
     number_of(verdict)
 }
 
-#[unsafe(no_mangle)]
-pub extern "C" fn nyotmelang_pager_begin(
+pub fn nyotmelang_pager_begin(
     head: &mut [u64; 12],
     rows: &mut [[u64; 3]; 256],
     resident: &mut [u32; 64],
@@ -98,8 +96,7 @@ pub extern "C" fn nyotmelang_pager_begin(
     r.number
 }
 
-#[unsafe(no_mangle)]
-pub extern "C" fn nyotmelang_pager_flush(
+pub fn nyotmelang_pager_flush(
     head: &mut [u64; 12],
     rows: &mut [[u64; 3]; 256],
     resident: &mut [u32; 64],
@@ -119,8 +116,7 @@ pub extern "C" fn nyotmelang_pager_flush(
     r.number
 }
 
-#[unsafe(no_mangle)]
-pub extern "C" fn nyotmelang_pager_commit(
+pub fn nyotmelang_pager_commit(
     head: &mut [u64; 12],
     rows: &mut [[u64; 3]; 256],
     resident: &mut [u32; 64],
@@ -139,8 +135,7 @@ pub extern "C" fn nyotmelang_pager_commit(
     r.number
 }
 
-#[unsafe(no_mangle)]
-pub extern "C" fn nyotmelang_pager_rollback(
+pub fn nyotmelang_pager_rollback(
     head: &mut [u64; 12],
     rows: &mut [[u64; 3]; 256],
     resident: &mut [u32; 64],
@@ -160,8 +155,7 @@ pub extern "C" fn nyotmelang_pager_rollback(
     r.number
 }
 
-#[unsafe(no_mangle)]
-pub extern "C" fn nyotmelang_pager_advance(
+pub fn nyotmelang_pager_advance(
     head: &mut [u64; 12],
     rows: &mut [[u64; 3]; 256],
     resident: &mut [u32; 64],

@@ -52,8 +52,7 @@ fn give_told(r: Told, values: &mut [u64; 4]) -> u8
 
 // ---- begin
 
-#[unsafe(no_mangle)]
-pub extern "C" fn nyotmelang_pager_begin_to(
+pub fn nyotmelang_pager_begin_to(
     head: &[u64; 12],
     rows: &[[u64; 3]; 256],
     resident: &[u32; 64],
@@ -84,8 +83,7 @@ pub extern "C" fn nyotmelang_pager_begin_to(
     give_cut(r, values)
 }
 
-#[unsafe(no_mangle)]
-pub extern "C" fn nyotmelang_pager_begin_count(
+pub fn nyotmelang_pager_begin_count(
     head: &[u64; 12],
     rows: &[[u64; 3]; 256],
     resident: &[u32; 64],
@@ -114,8 +112,7 @@ pub extern "C" fn nyotmelang_pager_begin_count(
     give_count(r, values)
 }
 
-#[unsafe(no_mangle)]
-pub extern "C" fn nyotmelang_pager_begin_told(
+pub fn nyotmelang_pager_begin_told(
     head: &[u64; 12],
     rows: &[[u64; 3]; 256],
     resident: &[u32; 64],
@@ -148,8 +145,7 @@ pub extern "C" fn nyotmelang_pager_begin_told(
 
 // ---- flush
 
-#[unsafe(no_mangle)]
-pub extern "C" fn nyotmelang_pager_flush_to(
+pub fn nyotmelang_pager_flush_to(
     head: &[u64; 12],
     rows: &[[u64; 3]; 256],
     resident: &[u32; 64],
@@ -169,8 +165,7 @@ pub extern "C" fn nyotmelang_pager_flush_to(
     give_cut(r, values)
 }
 
-#[unsafe(no_mangle)]
-pub extern "C" fn nyotmelang_pager_flush_count(
+pub fn nyotmelang_pager_flush_count(
     head: &[u64; 12],
     rows: &[[u64; 3]; 256],
     resident: &[u32; 64],
@@ -189,8 +184,7 @@ pub extern "C" fn nyotmelang_pager_flush_count(
     give_count(r, values)
 }
 
-#[unsafe(no_mangle)]
-pub extern "C" fn nyotmelang_pager_flush_told(
+pub fn nyotmelang_pager_flush_told(
     head: &[u64; 12],
     rows: &[[u64; 3]; 256],
     resident: &[u32; 64],
@@ -212,8 +206,7 @@ pub extern "C" fn nyotmelang_pager_flush_told(
 
 // ---- commit
 
-#[unsafe(no_mangle)]
-pub extern "C" fn nyotmelang_pager_commit_to(
+pub fn nyotmelang_pager_commit_to(
     head: &[u64; 12],
     rows: &[[u64; 3]; 256],
     resident: &[u32; 64],
@@ -232,8 +225,7 @@ pub extern "C" fn nyotmelang_pager_commit_to(
     give_cut(r, values)
 }
 
-#[unsafe(no_mangle)]
-pub extern "C" fn nyotmelang_pager_commit_count(
+pub fn nyotmelang_pager_commit_count(
     head: &[u64; 12],
     rows: &[[u64; 3]; 256],
     resident: &[u32; 64],
@@ -251,8 +243,7 @@ pub extern "C" fn nyotmelang_pager_commit_count(
     give_count(r, values)
 }
 
-#[unsafe(no_mangle)]
-pub extern "C" fn nyotmelang_pager_commit_told(
+pub fn nyotmelang_pager_commit_told(
     head: &[u64; 12],
     rows: &[[u64; 3]; 256],
     resident: &[u32; 64],
@@ -273,8 +264,7 @@ pub extern "C" fn nyotmelang_pager_commit_told(
 
 // ---- rollback
 
-#[unsafe(no_mangle)]
-pub extern "C" fn nyotmelang_pager_rollback_to(
+pub fn nyotmelang_pager_rollback_to(
     head: &[u64; 12],
     rows: &[[u64; 3]; 256],
     resident: &[u32; 64],
@@ -294,8 +284,7 @@ pub extern "C" fn nyotmelang_pager_rollback_to(
     give_cut(r, values)
 }
 
-#[unsafe(no_mangle)]
-pub extern "C" fn nyotmelang_pager_rollback_count(
+pub fn nyotmelang_pager_rollback_count(
     head: &[u64; 12],
     rows: &[[u64; 3]; 256],
     resident: &[u32; 64],
@@ -314,8 +303,7 @@ pub extern "C" fn nyotmelang_pager_rollback_count(
     give_count(r, values)
 }
 
-#[unsafe(no_mangle)]
-pub extern "C" fn nyotmelang_pager_rollback_told(
+pub fn nyotmelang_pager_rollback_told(
     head: &[u64; 12],
     rows: &[[u64; 3]; 256],
     resident: &[u32; 64],
@@ -337,8 +325,7 @@ pub extern "C" fn nyotmelang_pager_rollback_told(
 
 // ---- advance
 
-#[unsafe(no_mangle)]
-pub extern "C" fn nyotmelang_pager_advance_to(
+pub fn nyotmelang_pager_advance_to(
     head: &[u64; 12],
     rows: &[[u64; 3]; 256],
     resident: &[u32; 64],
@@ -369,8 +356,7 @@ pub extern "C" fn nyotmelang_pager_advance_to(
     give_cut(r, values)
 }
 
-#[unsafe(no_mangle)]
-pub extern "C" fn nyotmelang_pager_advance_count(
+pub fn nyotmelang_pager_advance_count(
     head: &[u64; 12],
     rows: &[[u64; 3]; 256],
     resident: &[u32; 64],
@@ -399,8 +385,7 @@ pub extern "C" fn nyotmelang_pager_advance_count(
     give_count(r, values)
 }
 
-#[unsafe(no_mangle)]
-pub extern "C" fn nyotmelang_pager_advance_told(
+pub fn nyotmelang_pager_advance_told(
     head: &[u64; 12],
     rows: &[[u64; 3]; 256],
     resident: &[u32; 64],

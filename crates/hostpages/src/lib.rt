@@ -18,8 +18,7 @@ use table::{Entry, Status};
 
 // ---- pages
 
-#[unsafe(no_mangle)]
-pub extern "C" fn nyotmelang_pager_write_page(
+pub fn nyotmelang_pager_write_page(
     head: &mut [u64; 12],
     rows: &mut [[u64; 3]; 256],
     resident: &mut [u32; 64],
@@ -43,8 +42,7 @@ pub extern "C" fn nyotmelang_pager_write_page(
 }
 
 // A refusal leaves the host's bytes as they are.
-#[unsafe(no_mangle)]
-pub extern "C" fn nyotmelang_pager_read_page(
+pub fn nyotmelang_pager_read_page(
     head: &mut [u64; 12],
     rows: &mut [[u64; 3]; 256],
     resident: &mut [u32; 64],
@@ -69,8 +67,7 @@ pub extern "C" fn nyotmelang_pager_read_page(
 
 // ---- a transaction
 
-#[unsafe(no_mangle)]
-pub extern "C" fn nyotmelang_pager_install(
+pub fn nyotmelang_pager_install(
     head: &mut [u64; 12],
     rows: &mut [[u64; 3]; 256],
     resident: &mut [u32; 64],
@@ -103,8 +100,7 @@ pub extern "C" fn nyotmelang_pager_install(
 }
 
 // The values are 1 where a transaction was in, its id, how many pages, 0; or four 0. Its pages go over the front of out, which a refusal leaves as it is.
-#[unsafe(no_mangle)]
-pub extern "C" fn nyotmelang_pager_uninstall(
+pub fn nyotmelang_pager_uninstall(
     head: &mut [u64; 12],
     rows: &mut [[u64; 3]; 256],
     resident: &mut [u32; 64],
@@ -130,8 +126,7 @@ pub extern "C" fn nyotmelang_pager_uninstall(
 
 // ---- an id, a page
 
-#[unsafe(no_mangle)]
-pub extern "C" fn nyotmelang_pager_allocate_id(
+pub fn nyotmelang_pager_allocate_id(
     head: &mut [u64; 12],
     rows: &mut [[u64; 3]; 256],
     resident: &mut [u32; 64],
@@ -153,8 +148,7 @@ pub extern "C" fn nyotmelang_pager_allocate_id(
     r.number
 }
 
-#[unsafe(no_mangle)]
-pub extern "C" fn nyotmelang_pager_allocate_page(
+pub fn nyotmelang_pager_allocate_page(
     head: &mut [u64; 12],
     rows: &mut [[u64; 3]; 256],
     resident: &mut [u32; 64],
@@ -177,8 +171,7 @@ pub extern "C" fn nyotmelang_pager_allocate_page(
 
 // ---- the table
 
-#[unsafe(no_mangle)]
-pub extern "C" fn nyotmelang_pager_entry_count(
+pub fn nyotmelang_pager_entry_count(
     head: &[u64; 12],
     rows: &[[u64; 3]; 256],
     resident: &[u32; 64],
@@ -220,8 +213,7 @@ fn values_of(e: EntryAt) -> [u64; 4]
 }
 
 // The values are 1 and the entry's id, tag and time; or four 0 past the last.
-#[unsafe(no_mangle)]
-pub extern "C" fn nyotmelang_pager_entry(
+pub fn nyotmelang_pager_entry(
     head: &[u64; 12],
     rows: &[[u64; 3]; 256],
     resident: &[u32; 64],
@@ -258,8 +250,7 @@ fn hand_out(rows: &[[u64; 3]; 256], n: usize, out: &mut [[u64; 3]])
 }
 
 // All rows over the front of out; 13, and nothing stored, where it has too few places.
-#[unsafe(no_mangle)]
-pub extern "C" fn nyotmelang_pager_table(
+pub fn nyotmelang_pager_table(
     head: &[u64; 12],
     rows: &[[u64; 3]; 256],
     resident: &[u32; 64],

@@ -1,5 +1,7 @@
 // Opening a store: scan, lay the images, clog, table and counters, truncate. What comes out is defined in the crate opening; specs/Opens.antt tells what the
 // private functions give. Every test that can refuse with 1, 12 or 4 to 7 stands before the first change.
+#![tactic(auto)]
+
 ghost use Rattle.std.specs.Prelude.{◌≡◌, map, false, ◌||◌, ◌≤◌, max, eqb, length};
 ghost use Rattle.fields.specs.Files.{file_of, unfit};
 ghost use Rattle.table.specs.Entries.{list_of};

@@ -3,14 +3,14 @@ use Prim.Native.Nat.{ℕ, zero, suc, ◌+◌, ◌-◌, ◌*◌, ◌≤◌}
 use native.Mathlib.Numerals.{add-one}
 use native.Mathlib.Omega.{arith}
 use mathlib.Core.Path.{◌≡◌, refl, sym, ap, ◌∙◌}
-use mathlib.Core.List.{List, [], ◌∷◌}
-use mathlib.Core.Bool.{true, false, cond}
+use mathlib.Core.List.{List, []}
+use mathlib.Core.Bool.{false, cond}
 use lib.ListN.{length, take, drop, get_or}
 use lib.Dec.{ltb}
 use lib.Seq.{sets, take_all}
 use borrow.Author.Tests.{le-ltb}
 use Rattle.fields.specs.Answers.{no_id, no_time}
-use Rattle.fields.specs.Files.{File, file_of, room, unfit}
+use Rattle.fields.specs.Files.{File, file_of}
 use Rattle.fields.proofs.Tests.{passed}
 use Rattle.fields.proofs.FileLaws.{fit-ok}
 use Rattle.frames.specs.Copies.{page_of, with_frame}

@@ -14,7 +14,6 @@ use Rattle.world.specs.Calls.{Call, steps, keeps}
 use Rattle.world.specs.Refusals.{call_no, front_no, refuses}
 use Rattle.world.specs.Run.{decided, tellings}
 use Rattle.stores.specs.declared.Telling.{Telling}
-use Rattle.stores.specs.Plans.{meant}
 use Rattle.stores.specs.Told.{telling_told, first_told, told_at, told_in}
 use Rattle.stores.proofs.TellLaws.{told-any}
 use Rattle.form.specs.declared.Store.{Store}

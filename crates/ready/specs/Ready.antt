@@ -9,7 +9,7 @@ use Rattle.frames.specs.Copies.{page_of, with_frame}
 use Rattle.world.specs.declared.Lens.{Lens}
 use Rattle.world.specs.World.{Files, files_of, lens_of}
 use Rattle.world.specs.Steps.{Step}
-use Rattle.world.specs.Calls.{Call, steps}
+use Rattle.world.specs.Calls.{Call}
 use Rattle.world.specs.Refusals.{refuses}
 use Rattle.world.specs.Run.{call_to, count, tellings}
 use Rattle.picks.specs.declared.Picked.{Picked}

@@ -1,6 +1,8 @@
 // A call with stores, made ready and then carried out. Making ready changes nothing: it gives the call's number, its stores as a plan, and the store after it.
 // Then the call is carried out, or cut at a store as if power went there, or its stores are counted or told. What is here serves every such call. Every public
 // function is total: its contract is one equation, which says the answer, the store and every byte of the buffers.
+#![tactic(auto)]
+
 ghost use Rattle.std.specs.Prelude.{◌≡◌, cond, ◌*◌};
 ghost use Rattle.std.proofs.lemmas.List.Edits.{sets};
 ghost use Rattle.fields.specs.Files.{file_of};

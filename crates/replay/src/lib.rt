@@ -1,4 +1,6 @@
 // The log's images laid into the database: specs/Replay.antt. The public function is total: its contract is one equation.
+#![tactic(auto)]
+
 ghost use Rattle.std.specs.Prelude.{◌≡◌};
 ghost use Rattle.fields.specs.Files.{file_of};
 ghost use Rattle.replay.specs.Replay.{laid_from};

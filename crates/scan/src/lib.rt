@@ -1,5 +1,7 @@
 // What an opening tests before it changes a byte: one pass over the log's records, specs/Scans.antt, then the number, specs/Surveys.antt.
 // Every public function is total: its contract is one equation.
+#![tactic(auto)]
+
 ghost use Rattle.std.specs.Prelude.{◌≡◌, ◌+◌, ◌/◌, false, length, leb};
 ghost use Rattle.fields.specs.Files.{file_of, unfit};
 ghost use Rattle.fields.specs.Answers.{told};

@@ -1,6 +1,8 @@
 // The calls that have no stores, on a store that stands where it is lent: install, uninstall, allocate an id or a page, read and write a page. Each takes the head by
 // value, the three arrays, the four buffers and its own arguments, tests 1 and 14 first, and hands back a number and the head; a refusal hands back the old head and
 // changes neither array nor buffer. Every public function is total: its contract is one equation with a call of specs.
+#![tactic(auto)]
+
 ghost use Rattle.std.specs.Prelude.{◌≡◌, true, false, cond, ◌+◌, ◌*◌, ◌≤◌, ◌<◌, max, length, take};
 ghost use Rattle.std.proofs.lemmas.List.Edits.{sets};
 ghost use Rattle.fields.specs.Files.{file_of};

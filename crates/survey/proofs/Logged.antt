@@ -2,14 +2,14 @@
 use Prim.Native.Nat.{ℕ, ◌≤◌, ◌<◌}
 use native.Mathlib.Omega.{arith}
 use mathlib.Core.Path.{◌≡◌, refl, sym, ap, subst, ◌∙◌}
-use mathlib.Core.List.{List, [], map}
+use mathlib.Core.List.{List, []}
 use mathlib.Core.Bool.{Bool}
 use lib.ListN.{length}
 use Rattle.fields.specs.Files.{File}
 use Rattle.table.specs.declared.Entry.{Entry}
 use Rattle.table.specs.Entries.{id_of, insert_all, settled_entry, active_to_aborted}
 use Rattle.rows.specs.declared.Counted.{Counted}
-use Rattle.rows.specs.Rows.{Rowed, rowed_as, rowed, set_all}
+use Rattle.rows.specs.Rows.{rowed_as, rowed, set_all}
 use Rattle.rows.proofs.Several.{insert-map-all, holding, all-fits, all-full}
 use Rattle.rows.proofs.Answers.{rowed-same}
 use Rattle.opening.specs.Opening.{records, statuses, log_table}

@@ -1,15 +1,15 @@
 -- Laws of the pass over a log, over the page size P: what is found so far, with what the records from a place on add to it;
 -- a turn moves one record from the one to the other. Assumes nothing.
-use mathlib.Core.Path.{◌≡◌, refl, sym, ap, ◌∙◌}
+use mathlib.Core.Path.{◌≡◌, refl, sym, ◌∙◌}
 use mathlib.Core.List.{List, [], ◌∷◌, map}
-use mathlib.Core.Bool.{Bool, true, false, cond, ◌||◌}
-use Prim.Native.Nat.{ℕ, ◌+◌, ◌*◌, ◌≤◌, ◌<◌}
+use mathlib.Core.Bool.{Bool, true, false, ◌||◌}
+use Prim.Native.Nat.{ℕ, ◌+◌, ◌*◌, ◌<◌}
 use native.Mathlib.Omega.{arith}
 use lib.Dec.{ltb}
 use lib.ListN.{length, take, drop}
 use Rattle.fields.proofs.Tests.{or-false}
 use Rattle.fields.specs.Files.{File, file_of, content, unfit}
-use Rattle.wal.specs.Records.{Record, image, begin, commit, abort, checkpoint, clean, ending_no, Parsed, joined, parse, records_in, start_of, log_of}
+use Rattle.wal.specs.Records.{Record, image, begin, commit, abort, checkpoint, clean, ending_no, Parsed, joined, parse, records_in, log_of}
 use Rattle.wal.specs.Reading.{read_told, read_in, start_in}
 use Rattle.wal.specs.Inside.{shown}
 use Rattle.wal.specs.declared.Read.{Read}

@@ -1,5 +1,5 @@
 -- What the contracts of private functions cite: a pass over the log record by record. P is the page size. Assumes nothing.
-use Rattle.std.specs.Prelude.{ℕ, false, ◌||◌}
+use Rattle.std.specs.Prelude.{ℕ, ◌||◌}
 use Rattle.wal.specs.declared.WalRecord.{WalRecord}
 use Rattle.wal.specs.declared.WalRecord.TheVariants.{Image, Begin, Commit, Abort, Checkpoint}
 use Rattle.wal.specs.declared.Read.{Read}

@@ -1,5 +1,7 @@
 // What an opening tests of the log before it changes a byte: one pass over the records, specs/Survey.antt. The log's table goes into rows that are lent: nothing
 // large is carried from record to record. The public function is total: its contract is one equation.
+#![tactic(auto)]
+
 ghost use Rattle.std.specs.Prelude.{◌≡◌, ◌+◌, ◌/◌, false, leb};
 ghost use Rattle.fields.specs.Files.{file_of};
 ghost use Rattle.scan.specs.Inside.{image_past};

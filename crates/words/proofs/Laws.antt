@@ -6,7 +6,7 @@ use mathlib.Core.List.{List, [], ◌∷◌}
 use lib.ListN.{length}
 use Rattle.lent.specs.declared.Head.{Head}
 use Rattle.lent.specs.Lent.{Left, leaving, lent}
-use Rattle.words.specs.Words.{head_in, words_of, Standing, standing, standing_of}
+use Rattle.words.specs.Words.{head_in, words_of, standing, standing_of}
 
 pub head-back : (h : Head) → head_in (words_of h) ≡ h
 unfolding head_in words_of

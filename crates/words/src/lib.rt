@@ -1,5 +1,7 @@
 // The head of a store as a host keeps it: twelve words, beside the three arrays. specs/Words.antt says which word is what. Any twelve words are a head, and a head is
 // twelve words, so nothing is lost in between and nothing is refused here.
+#![tactic(auto)]
+
 ghost use Rattle.std.specs.Prelude.{◌≡◌};
 ghost use Rattle.words.specs.Words.{head_in, words_of};
 

@@ -1,11 +1,8 @@
 -- `opens::load_clog` meets its contract: opened, loaded, recorded. Assumes nothing.
 -- the file at entry, and what it is once opened and loaded
-use mathlib.Core.Path.{◌≡◌, ◌∙◌}
-use Rattle.fields.specs.Answers.{length_of}
-use Rattle.fields.specs.Files.{File, file_of}
-use Rattle.clog.specs.Slots.{open_clog, settled}
+use mathlib.Core.Path.{◌∙◌}
+use Rattle.fields.specs.Files.{file_of}
 use Rattle.opens.proofs.Clogs.{fit-len, is_open, is-loaded, loads}
-use borrow.Author.Rules.{rules}
 use Rattle.opens.proofs.load_clog.Goals as goal
 
 pub record_all-requires : goal.record_all-requires

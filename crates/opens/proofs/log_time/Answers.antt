@@ -1,6 +1,5 @@
 -- `opens::log_time` meets its contract. Assumes nothing.
 use mathlib.Core.Path.{◌∙◌}
-use borrow.Author.Rules.{rules}
 use Rattle.opens.proofs.log_time.Goals as goal
 
 pub returns : goal.returns

@@ -1,6 +1,5 @@
 -- `opens::meta_counters` meets its contract. Assumes nothing.
 use Rattle.opens.specs.Inside.{meta_counters}
-use borrow.Author.Rules.{rules}
 use Rattle.opens.proofs.meta_counters.Goals as goal
 
 pub returns : goal.returns

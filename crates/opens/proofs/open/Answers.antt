@@ -1,15 +1,12 @@
 -- `opens::open` meets its contract: one law for each way out, and what the calls promise as its premises. Assumes nothing.
 -- what came in, the database after its images are laid, and the number
-use mathlib.Core.Path.{◌≡◌, sym, ap, ◌∙◌}
+use mathlib.Core.Path.{sym, ap, ◌∙◌}
 use borrow.Author.Tests.{not-true, not-false}
 use Rattle.fields.specs.Answers.{length_of}
-use Rattle.fields.specs.Files.{File, file_of}
-use Rattle.world.specs.World.{files_of}
-use Rattle.opening.specs.Opening.{open_no}
+use Rattle.fields.specs.Files.{file_of}
 use Rattle.scan.specs.declared.Surveyed.{Surveyed}
 use Rattle.scan.specs.Surveys.{surveyed}
 use Rattle.opens.proofs.Ways.{lays-zero, out-refused, out-torn, out-unknown, logged-is, full_is, ready, is_cut, db-small, out-accepted}
-use borrow.Author.Rules.{rules}
 use Rattle.opens.proofs.open.Goals as goal
 
 pub returns-then-not-lays : goal.returns-then-not-lays

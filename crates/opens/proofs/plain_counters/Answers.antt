@@ -1,6 +1,5 @@
 -- `opens::plain_counters` meets its contract. Assumes nothing.
 use Rattle.opens.specs.Inside.{plain_counters}
-use borrow.Author.Rules.{rules}
 use Rattle.opens.proofs.plain_counters.Goals as goal
 
 pub returns : goal.returns

@@ -1,14 +1,11 @@
 -- `opens::record_all` meets its contract. The loop's invariant: recording the entries that are left gives what recording all gives, and the length stays
 -- within the buffer. The measure is how many are left. Assumes nothing.
 use mathlib.Core.Path.{◌≡◌, refl, ◌∙◌}
-use Prim.Native.Nat.{◌≤◌, min}
 use native.Mathlib.Omega.{arith}
 use borrow.Author.Rules.{rules}
-use lib.ListN.{length, take}
-use Rattle.fields.specs.Files.{file_of}
+use lib.ListN.{length}
 use Rattle.fields.proofs.FileLaws.{fit-means}
 use Rattle.sorted.proofs.Laws.{take_min, length-of-mapped}
-use Rattle.table.specs.Entries.{list_of}
 use Rattle.clog.specs.Slots.{record_all}
 use Rattle.opens.proofs.Clogs.{put}
 use Rattle.opens.proofs.record_all.Goals as goal

@@ -1,6 +1,5 @@
 -- `opens::store_at_rest` meets its contract. Assumes nothing.
 use Rattle.opens.specs.Inside.{store_at_rest}
-use borrow.Author.Rules.{rules}
 use Rattle.opens.proofs.store_at_rest.Goals as goal
 
 pub returns : goal.returns

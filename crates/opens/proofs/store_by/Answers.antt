@@ -1,6 +1,5 @@
 -- `opens::store_by` meets its contract, arm by arm. Assumes nothing.
 use mathlib.Core.Path.{◌∙◌}
-use borrow.Author.Rules.{rules}
 use Rattle.opens.proofs.store_by.Goals as goal
 
 pub returns-in-Meta : goal.returns-in-Meta

@@ -1,7 +1,6 @@
 -- `opens::unopened` meets its contract: nothing in the store. Assumes nothing.
 use Rattle.form.specs.Store.{no_store}
 use Rattle.opens.specs.Inside.{store_at_rest}
-use borrow.Author.Rules.{rules}
 use Rattle.opens.proofs.unopened.Goals as goal
 
 pub returns : goal.returns

@@ -2,7 +2,6 @@
 use Rattle.fields.specs.Files.{file_of}
 use Rattle.ready.specs.Ready.{with_lens}
 use Rattle.ready.proofs.Prepared.{framed-out, carried-done}
-use borrow.Author.Rules.{rules}
 use Rattle.ready.proofs.carry_out.Goals as goal
 
 pub returns : goal.returns

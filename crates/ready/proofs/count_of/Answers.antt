@@ -1,6 +1,5 @@
 -- `ready::count_of` meets its contract. Assumes nothing.
 use Rattle.ready.specs.Ready.{counted_of}
-use borrow.Author.Rules.{rules}
 use Rattle.ready.proofs.count_of.Goals as goal
 
 pub returns : goal.returns

@@ -1,6 +1,5 @@
 -- `ready::cut_at` meets its contract. Assumes nothing.
 use Rattle.ready.proofs.Prepared.{cut-done}
-use borrow.Author.Rules.{rules}
 use Rattle.ready.proofs.cut_at.Goals as goal
 
 pub returns : goal.returns

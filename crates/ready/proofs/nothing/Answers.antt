@@ -1,6 +1,5 @@
 -- `ready::nothing` meets its contract. Assumes nothing.
 use Rattle.ready.proofs.Prepared.{idle-out}
-use borrow.Author.Rules.{rules}
 use Rattle.ready.proofs.nothing.Goals as goal
 
 pub returns : goal.returns

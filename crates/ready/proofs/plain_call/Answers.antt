@@ -1,6 +1,5 @@
 -- `ready::plain_call` meets its contract. Assumes nothing.
 use Rattle.ready.proofs.Prepared.{plain_out}
-use borrow.Author.Rules.{rules}
 use Rattle.ready.proofs.plain_call.Goals as goal
 
 pub returns : goal.returns

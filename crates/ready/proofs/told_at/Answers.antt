@@ -1,6 +1,5 @@
 -- `ready::told_at` meets its contract. Assumes nothing.
 use Rattle.ready.proofs.ToldLaws.{told-out}
-use borrow.Author.Rules.{rules}
 use Rattle.ready.proofs.told_at.Goals as goal
 
 pub returns : goal.returns

@@ -1,17 +1,12 @@
 -- `replay::lay_images` meets its contract. The loop's invariant: laying the images of the records from the place on gives what laying all gives.
 -- The measure is how many bytes are left. Assumes nothing.
-use mathlib.Core.Path.{◌≡◌, refl, sym, ◌∙◌}
+use mathlib.Core.Path.{◌≡◌}
 use Prim.Native.Nat.{◌-◌, ◌≤◌}
-use native.Mathlib.Omega.{arith}
-use borrow.Author.Rules.{rules}
-use lib.Dec.{lit<}
 use lib.ListN.{length, take, drop}
 use Rattle.fields.specs.Files.{file_of}
 use Rattle.wal.specs.Records.{parse, records_in}
 use Rattle.opening.specs.Opening.{replay}
-use Rattle.scan.proofs.Turns.{start-within, ahead}
 use Rattle.replay.specs.Replay.{laid_from}
-use Rattle.replay.proofs.Laws.{laid-turn, laid-unfit, laid-start, laid_done}
 use Rattle.replay.proofs.lay_images.Given as goal
 
 abbrev pub invariant-loop-at : goal.invariant-loop-at

@@ -5,7 +5,6 @@ use Prim.Native.Nat.{◌*◌}
 use native.Mathlib.Omega.{arith}
 use Rattle.fields.proofs.Stored.{sets-out, lent-tail}
 use Rattle.replay.proofs.Laws.{no-page, whole-page}
-use borrow.Author.Rules.{rules}
 use Rattle.replay.proofs.lay_page.Goals as goal
 
 pub returns-then-n-eq0 : goal.returns-then-n-eq0

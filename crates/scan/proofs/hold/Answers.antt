@@ -1,6 +1,5 @@
 -- `scan::hold` meets its contract: one law for each way out. Assumes nothing.
 use Rattle.scan.proofs.Held.{hold-shut, hold-full, hold-set}
-use borrow.Author.Rules.{rules}
 use Rattle.scan.proofs.hold.Goals as goal
 
 pub returns-then-h-ne-ACCEPTED : goal.returns-then-h-ne-ACCEPTED

@@ -7,7 +7,6 @@ use Rattle.fields.proofs.FileLaws.{fit-means}
 use borrow.Author.Tests.{not-true, not-false}
 use Rattle.clog.specs.Slots.{clog_magic, valid_clog}
 use Rattle.scan.proofs.Surveys.{in-none, in-read}
-use borrow.Author.Rules.{rules}
 use Rattle.scan.proofs.in_clog.Goals as goal
 
 pub slice_bounds-s-end : goal.slice_bounds-s-end

@@ -1,6 +1,5 @@
 -- `scan::is_past_db` meets its contract. Assumes nothing.
 use Rattle.scan.proofs.Turns.{past-page, past-size}
-use borrow.Author.Rules.{rules}
 use Rattle.scan.proofs.is_past_db.Goals as goal
 
 pub returns-then-page-ge-NO_PAGE : goal.returns-then-page-ge-NO_PAGE

@@ -1,5 +1,4 @@
 -- `scan::on_image` meets its contract. Assumes nothing.
-use borrow.Author.Rules.{rules}
 use Rattle.scan.specs.Inside.{with_image}
 use Rattle.scan.proofs.on_image.Goals as goal
 

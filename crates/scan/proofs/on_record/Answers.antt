@@ -1,6 +1,5 @@
 -- `scan::on_record` meets its contract, arm by arm. Assumes nothing.
 use mathlib.Core.Path.{◌∙◌}
-use borrow.Author.Rules.{rules}
 use Rattle.scan.proofs.on_record.Goals as goal
 
 pub returns-in-Image : goal.returns-in-Image

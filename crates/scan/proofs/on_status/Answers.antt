@@ -1,5 +1,4 @@
 -- `scan::on_status` meets its contract. Assumes nothing.
-use borrow.Author.Rules.{rules}
 use Rattle.scan.specs.Inside.{with_status}
 use Rattle.scan.proofs.on_status.Goals as goal
 

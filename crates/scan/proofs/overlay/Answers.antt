@@ -1,7 +1,6 @@
 -- `scan::overlay` meets its contract: one law for each way out. Assumes nothing.
 use mathlib.Core.Path.{◌∙◌}
 use Rattle.scan.proofs.Surveys.{over-log, over-clog, over-both, over-fits}
-use borrow.Author.Rules.{rules}
 use Rattle.scan.proofs.overlay.Goals as goal
 
 pub returns-then-held-ne-ACCEPTED : goal.returns-then-held-ne-ACCEPTED

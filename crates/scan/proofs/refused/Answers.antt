@@ -1,6 +1,5 @@
 -- `scan::refused` meets its contract. Assumes nothing.
 use Rattle.scan.specs.Inside.{refusal}
-use borrow.Author.Rules.{rules}
 use Rattle.scan.proofs.refused.Goals as goal
 
 pub returns : goal.returns

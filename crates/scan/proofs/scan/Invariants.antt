@@ -1,14 +1,12 @@
 -- `scan::scan` meets its contract. The loop's invariant: what is found so far, with what the records from the place on add to it, is what the whole log has.
 -- The measure is how many bytes are left. Assumes nothing.
-use mathlib.Core.Path.{◌≡◌, sym, ◌∙◌}
+use mathlib.Core.Path.{◌≡◌}
 use Prim.Native.Nat.{◌-◌, ◌≤◌}
-use native.Mathlib.Omega.{arith}
-use borrow.Author.Rules.{rules}
 use lib.ListN.{take, drop}
 use Rattle.fields.specs.Files.{file_of}
 use Rattle.wal.specs.Records.{parse}
-use Rattle.scan.specs.Scans.{found, scanned}
-use Rattle.scan.proofs.Turns.{onto, onto-start, start-within, ahead, moved, scan-done}
+use Rattle.scan.specs.Scans.{found}
+use Rattle.scan.proofs.Turns.{onto}
 use Rattle.scan.proofs.scan.Given as goal
 
 abbrev pub invariant-loop-at : goal.invariant-loop-at

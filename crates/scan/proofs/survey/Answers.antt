@@ -3,7 +3,6 @@ use mathlib.Core.Path.{sym, ap, ◌∙◌}
 use Rattle.world.specs.World.{files_of}
 use Rattle.scan.specs.Inside.{together}
 use Rattle.scan.proofs.Surveys.{survey-unfit, clog-fits, survey-format, survey-room, survey-full, survey-ending, survey-passed}
-use borrow.Author.Rules.{rules}
 use Rattle.scan.proofs.survey.Goals as goal
 
 pub returns-then-buffers_bad : goal.returns-then-buffers_bad

@@ -1,5 +1,4 @@
 -- `scan::unread` meets its contract. Assumes nothing.
-use borrow.Author.Rules.{rules}
 use Rattle.scan.specs.Scans.{nothing}
 use Rattle.scan.proofs.unread.Goals as goal
 

@@ -1,12 +1,8 @@
 -- `still::allocate_page` meets its contract: refused by the first test or by 10, or the page count is handed out. Assumes nothing.
 -- the arrays have the sizes of their types
 use borrow.Author.Rules.{rules}
-use mathlib.Core.Path.{◌≡◌}
-use mathlib.Core.Bool.{false}
-use Rattle.world.specs.Refusals.{front_no}
-use Rattle.form.specs.Store.{world_of}
-use Rattle.lent.specs.Lent.{lent, odd, store_of}
-use Rattle.lent.proofs.Laws.{Fit, front-passed}
+use Rattle.lent.specs.Lent.{lent}
+use Rattle.lent.proofs.Laws.{front-passed}
 use Rattle.still.proofs.Transactions.{page-first, page-10, page-left}
 use Rattle.still.proofs.allocate_page.Goals as goal
 

@@ -2,7 +2,6 @@
 -- the arrays have the sizes of their types
 use borrow.Author.Rules.{rules}
 use Rattle.lent.specs.Lent.{lent}
-use Rattle.lent.proofs.Laws.{Fit}
 use Rattle.still.proofs.Entries.{read_first, read_past, read_is}
 use Rattle.still.proofs.entry_at.Goals as goal
 

@@ -1,5 +1,4 @@
 -- `still::entry_count` meets its contract. Assumes nothing.
-use borrow.Author.Rules.{rules}
 use Rattle.lent.specs.Lent.{lent}
 use Rattle.still.proofs.Entries.{count-first, count-out}
 use Rattle.still.proofs.entry_count.Goals as goal

@@ -1,5 +1,4 @@
 -- `still::fill` meets its contract: nothing where the page was there, else the file's page in its frame. Assumes nothing.
-use borrow.Author.Rules.{rules}
 use Rattle.still.proofs.fill.Goals as goal
 
 pub returns : goal.returns

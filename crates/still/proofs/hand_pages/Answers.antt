@@ -1,10 +1,8 @@
 -- `still::hand_pages` meets its contract: what is left to store, stored, gives what was asked for. Assumes nothing.
 use mathlib.Core.Path.{◌≡◌, refl, sym, ◌∙◌}
-use Prim.Native.Nat.{◌-◌, ◌≤◌}
 use native.Mathlib.Omega.{arith}
 use borrow.Author.Rules.{rules}
-use lib.ListN.{length, take, drop, length-set}
-use lib.Seq.{sets}
+use lib.ListN.{length, length-set}
 use Rattle.still.proofs.Handing.{hand-fits, hand-turn, hand_end, hand-laid}
 use Rattle.still.proofs.hand_pages.Goals as goal
 

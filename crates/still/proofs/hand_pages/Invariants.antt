@@ -1,11 +1,8 @@
 -- `still::hand_pages` meets its contract: what is left to store, stored, gives what was asked for. Assumes nothing.
-use mathlib.Core.Path.{◌≡◌, refl, sym, ◌∙◌}
+use mathlib.Core.Path.{◌≡◌}
 use Prim.Native.Nat.{◌-◌, ◌≤◌}
-use native.Mathlib.Omega.{arith}
-use borrow.Author.Rules.{rules}
-use lib.ListN.{length, take, drop, length-set}
+use lib.ListN.{length, take, drop}
 use lib.Seq.{sets}
-use Rattle.still.proofs.Handing.{hand-fits, hand-turn, hand_end, hand-laid}
 use Rattle.still.proofs.hand_pages.Given as goal
 
 abbrev pub invariant-loop-i : goal.invariant-loop-i

@@ -2,14 +2,11 @@
 -- the arrays have the sizes of their types
 use borrow.Author.Rules.{rules}
 use Rattle.lent.specs.declared.Reply.{Reply}
-use mathlib.Core.Path.{◌≡◌, sym, ap, ◌∙◌}
-use mathlib.Core.Bool.{false}
+use mathlib.Core.Path.{sym, ap, ◌∙◌}
 use borrow.Author.Tests.{not-true, not-false}
 use Rattle.world.specs.Calls.{Install}
-use Rattle.world.specs.Refusals.{front_no}
-use Rattle.form.specs.Store.{world_of}
-use Rattle.lent.specs.Lent.{lent, odd, store_of, leaving}
-use Rattle.lent.proofs.Laws.{Fit, front-passed, first-left}
+use Rattle.lent.specs.Lent.{lent, leaving}
+use Rattle.lent.proofs.Laws.{front-passed, first-left}
 use Rattle.still.proofs.Transactions.{install-14, install-9, install-left}
 use Rattle.still.proofs.install.Goals as goal
 

@@ -1,5 +1,4 @@
 -- `still::seat_at` meets its contract, by whether the page was found. Assumes nothing.
-use borrow.Author.Rules.{rules}
 use mathlib.Core.Path.{sym, ap}
 use Rattle.frames.specs.declared.Place.{Place}
 use Rattle.still.specs.Inside.{seat_at}

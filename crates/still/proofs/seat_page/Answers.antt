@@ -4,12 +4,9 @@ use borrow.Author.Rules.{rules}
 use Rattle.still.specs.declared.Seat.{Seat}
 use Rattle.still.specs.Inside.{seat_in}
 use Rattle.still.proofs.Pages.{seat-first, seat-bad, seat-none, seat-done}
-use mathlib.Core.Path.{◌≡◌, ap, ◌∙◌}
-use mathlib.Core.Bool.{false}
-use Rattle.world.specs.Refusals.{front_no}
-use Rattle.form.specs.Store.{world_of}
-use Rattle.lent.specs.Lent.{lent, odd, store_of}
-use Rattle.lent.proofs.Laws.{Fit, front-passed}
+use mathlib.Core.Path.{ap, ◌∙◌}
+use Rattle.lent.specs.Lent.{lent}
+use Rattle.lent.proofs.Laws.{front-passed}
 use Rattle.still.proofs.seat_page.Goals as goal
 
 pub returns-then-no-ne-ACCEPTED : goal.returns-then-no-ne-ACCEPTED

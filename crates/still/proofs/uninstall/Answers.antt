@@ -2,12 +2,9 @@
 -- the arrays have the sizes of their types
 use borrow.Author.Rules.{rules}
 use Rattle.still.specs.declared.Gone.{Gone}
-use mathlib.Core.Path.{◌≡◌, ap, ◌∙◌}
-use mathlib.Core.Bool.{false}
-use Rattle.world.specs.Refusals.{front_no}
-use Rattle.form.specs.Store.{world_of}
-use Rattle.lent.specs.Lent.{lent, odd, store_of, leaving}
-use Rattle.lent.proofs.Laws.{Fit, front-passed}
+use mathlib.Core.Path.{ap, ◌∙◌}
+use Rattle.lent.specs.Lent.{lent, leaving}
+use Rattle.lent.proofs.Laws.{front-passed}
 use Rattle.still.specs.Still.{beside, taken}
 use Rattle.still.proofs.Transactions.{uninstall-first, touched-good, touched-few, uninstall-13, uninstall-left}
 use Rattle.still.proofs.uninstall.Goals as goal

@@ -1,5 +1,4 @@
 -- `survey::on_image` meets its contract. Assumes nothing.
-use borrow.Author.Rules.{rules}
 use Rattle.survey.specs.Inside.{with_image}
 use Rattle.survey.proofs.on_image.Goals as goal
 

@@ -1,6 +1,5 @@
 -- `survey::on_read` meets its contract, arm by arm. Assumes nothing.
 use mathlib.Core.Path.{◌∙◌}
-use borrow.Author.Rules.{rules}
 use Rattle.survey.proofs.on_read.Goals as goal
 
 pub returns-in-Found : goal.returns-in-Found

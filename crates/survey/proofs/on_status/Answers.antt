@@ -1,5 +1,4 @@
 -- `survey::on_status` meets its contract. Assumes nothing.
-use borrow.Author.Rules.{rules}
 use Rattle.survey.specs.Inside.{with_status}
 use Rattle.survey.proofs.on_status.Goals as goal
 

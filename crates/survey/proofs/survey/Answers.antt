@@ -1,15 +1,10 @@
 -- `survey::survey` meets its contract. The loop's invariant: what is found so far, with what the records from the place on add to it, is what the whole log has. The measure is how many bytes are left. Assumes nothing.
-use borrow.Author.Rules.{rules}
-use mathlib.Core.Path.{◌≡◌, sym, ap, ◌∙◌}
-use Prim.Native.Nat.{◌-◌, ◌≤◌}
+use mathlib.Core.Path.{sym, ◌∙◌}
 use native.Mathlib.Omega.{arith}
-use lib.ListN.{take, drop}
 use Rattle.fields.specs.Files.{file_of}
-use Rattle.wal.specs.Records.{parse}
 use Rattle.scan.proofs.Turns.{start-within, ahead}
-use Rattle.survey.specs.Survey.{Survey, survey_of, found, surveyed}
-use Rattle.survey.specs.Inside.{with_read}
-use Rattle.survey.proofs.Turns.{onto, onto-start, moved, survey-done}
+use Rattle.survey.specs.Survey.{survey_of, surveyed}
+use Rattle.survey.proofs.Turns.{onto-start, moved, survey-done}
 use Rattle.survey.proofs.survey.Goals as goal
 
 pub returns-then-is_unfit : goal.returns-then-is_unfit

@@ -1,7 +1,5 @@
 use mathlib.Core.Path.{refl}
 use Rattle.words.specs.Words.{words_of}
-use Rattle.words.proofs.put_head.Reads as reads
-use Rattle.words.proofs.put_head.Lts as lts
 use Rattle.words.proofs.put_head.Goals as goal
 
 pub returns : goal.returns
