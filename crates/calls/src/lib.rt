@@ -1,5 +1,7 @@
 // Begin and flush: the calls with stores that leave the frames as they are. Each is made ready, then carried out, cut, counted or told as crate ready does it.
 // Every public function is total: its contract is one equation, which says the answer, the store and every byte of the buffers.
+#![tactic(auto)]
+
 ghost use Rattle.std.specs.Prelude.{◌≡◌};
 ghost use Rattle.world.specs.Calls.{Begin, Flush};
 ghost use Rattle.stores.specs.Room.{cut_of};

@@ -1,6 +1,8 @@
 // The leaf calls for a host in C or Rust: log reader and writer, clog, status pages, the second form of a clog, meta page. A file is a buffer that the host lends and a length. The answer is the call's
 // number; the values that come with it go into four numbers of the host, zeros after the last: specs/Leaves.antt says which. A slice is a pointer and a length
 // to the host.
+#![tactic(auto)]
+
 ghost use Rattle.std.specs.Prelude.{◌≡◌, [], ◌∷◌, cond, get_or};
 ghost use Rattle.std.proofs.lemmas.List.Edits.{sets};
 ghost use Rattle.fields.specs.Files.{file_of};
@@ -86,15 +88,13 @@ fn tell_stored(s: Stored, values: &mut [u64; 4]) -> u8
 
 // ---- the log
 
-#[unsafe(no_mangle)]
-pub extern "C" fn nyotmelang_log_start(log: &[u8], len: usize) -> usize
+pub fn nyotmelang_log_start(log: &[u8], len: usize) -> usize
     ensures { result ≡ start_in (file_of log.now len) }
 {
     wal::start_of(log, len)
 }
 
-#[unsafe(no_mangle)]
-pub extern "C" fn nyotmelang_log_read(
+pub fn nyotmelang_log_read(
     log: &[u8],
     len: usize,
     at: usize,
@@ -106,8 +106,7 @@ pub extern "C" fn nyotmelang_log_read(
     tell_read(found, values)
 }
 
-#[unsafe(no_mangle)]
-pub extern "C" fn nyotmelang_log_append_begin(
+pub fn nyotmelang_log_append_begin(
     log: &mut [u8],
     len: usize,
     id: u64,
@@ -119,8 +118,7 @@ pub extern "C" fn nyotmelang_log_append_begin(
     tell(a, values)
 }
 
-#[unsafe(no_mangle)]
-pub extern "C" fn nyotmelang_log_append_abort(
+pub fn nyotmelang_log_append_abort(
     log: &mut [u8],
     len: usize,
     id: u64,
@@ -132,8 +130,7 @@ pub extern "C" fn nyotmelang_log_append_abort(
     tell(a, values)
 }
 
-#[unsafe(no_mangle)]
-pub extern "C" fn nyotmelang_log_append_commit(
+pub fn nyotmelang_log_append_commit(
     log: &mut [u8],
     len: usize,
     id: u64,
@@ -146,8 +143,7 @@ pub extern "C" fn nyotmelang_log_append_commit(
     tell(a, values)
 }
 
-#[unsafe(no_mangle)]
-pub extern "C" fn nyotmelang_log_append_checkpoint(
+pub fn nyotmelang_log_append_checkpoint(
     log: &mut [u8],
     len: usize,
     values: &mut [u64; 4],
@@ -158,8 +154,7 @@ pub extern "C" fn nyotmelang_log_append_checkpoint(
     tell(a, values)
 }
 
-#[unsafe(no_mangle)]
-pub extern "C" fn nyotmelang_log_append_page(
+pub fn nyotmelang_log_append_page(
     log: &mut [u8],
     len: usize,
     page: u32,
@@ -172,8 +167,7 @@ pub extern "C" fn nyotmelang_log_append_page(
     tell(a, values)
 }
 
-#[unsafe(no_mangle)]
-pub extern "C" fn nyotmelang_log_truncate(log: &mut [u8], len: usize, values: &mut [u64; 4]) -> u8
+pub fn nyotmelang_log_truncate(log: &mut [u8], len: usize, values: &mut [u64; 4]) -> u8
     ensures { left result values.new log.new ≡ left_by (truncated (file_of log.old len)) }
 {
     let a = wal::truncate(log, len);
@@ -182,16 +176,14 @@ pub extern "C" fn nyotmelang_log_truncate(log: &mut [u8], len: usize, values: &m
 
 // ---- the clog
 
-#[unsafe(no_mangle)]
-pub extern "C" fn nyotmelang_clog_open(clog: &mut [u8], len: usize, values: &mut [u64; 4]) -> u8
+pub fn nyotmelang_clog_open(clog: &mut [u8], len: usize, values: &mut [u64; 4]) -> u8
     ensures { left result values.new clog.new ≡ left_by (opened (file_of clog.old len)) }
 {
     let a = clog::open(clog, len);
     tell(a, values)
 }
 
-#[unsafe(no_mangle)]
-pub extern "C" fn nyotmelang_clog_reset(clog: &mut [u8], len: usize, values: &mut [u64; 4]) -> u8
+pub fn nyotmelang_clog_reset(clog: &mut [u8], len: usize, values: &mut [u64; 4]) -> u8
     ensures { left result values.new clog.new ≡ left_by (wiped (file_of clog.old len)) }
 {
     let a = clog::reset(clog, len);
@@ -225,8 +217,7 @@ fn no_status(size: usize, len: usize, least: usize) -> u8
 }
 
 // The clog keeps no time: it is taken so that a status is told as everywhere else.
-#[unsafe(no_mangle)]
-pub extern "C" fn nyotmelang_clog_record(
+pub fn nyotmelang_clog_record(
     clog: &mut [u8],
     len: usize,
     id: u64,
@@ -251,8 +242,7 @@ pub extern "C" fn nyotmelang_clog_record(
     tell(a, values)
 }
 
-#[unsafe(no_mangle)]
-pub extern "C" fn nyotmelang_clog_compact(
+pub fn nyotmelang_clog_compact(
     clog: &mut [u8],
     len: usize,
     below: u64,
@@ -274,8 +264,7 @@ fn tell_load(a: Answer, entries: usize, values: &mut [u64; 4]) -> u8
     }
 }
 
-#[unsafe(no_mangle)]
-pub extern "C" fn nyotmelang_clog_load(
+pub fn nyotmelang_clog_load(
     clog: &mut [u8],
     len: usize,
     rows: &mut [[u64; 3]; 256],
@@ -292,8 +281,7 @@ pub extern "C" fn nyotmelang_clog_load(
 
 // ---- status pages
 
-#[unsafe(no_mangle)]
-pub extern "C" fn nyotmelang_clog_write_pages(
+pub fn nyotmelang_clog_write_pages(
     clog: &[u8],
     len: usize,
     mark: u64,
@@ -306,8 +294,7 @@ pub extern "C" fn nyotmelang_clog_write_pages(
     tell(a, values)
 }
 
-#[unsafe(no_mangle)]
-pub extern "C" fn nyotmelang_clog_read_pages(
+pub fn nyotmelang_clog_read_pages(
     pages: &[u8],
     out: &mut [u8],
     values: &mut [u64; 4],
@@ -320,8 +307,7 @@ pub extern "C" fn nyotmelang_clog_read_pages(
 
 // ---- the second form of a clog
 
-#[unsafe(no_mangle)]
-pub extern "C" fn nyotmelang_clog_to_second(
+pub fn nyotmelang_clog_to_second(
     clog: &[u8],
     len: usize,
     mark: u64,
@@ -334,8 +320,7 @@ pub extern "C" fn nyotmelang_clog_to_second(
     tell(a, values)
 }
 
-#[unsafe(no_mangle)]
-pub extern "C" fn nyotmelang_clog_to_first(
+pub fn nyotmelang_clog_to_first(
     second: &[u8],
     len: usize,
     out: &mut [u8],
@@ -347,8 +332,7 @@ pub extern "C" fn nyotmelang_clog_to_first(
     tell(a, values)
 }
 
-#[unsafe(no_mangle)]
-pub extern "C" fn nyotmelang_second_record(
+pub fn nyotmelang_second_record(
     second: &mut [u8],
     len: usize,
     id: u64,
@@ -373,8 +357,7 @@ pub extern "C" fn nyotmelang_second_record(
     tell(a, values)
 }
 
-#[unsafe(no_mangle)]
-pub extern "C" fn nyotmelang_second_compact(
+pub fn nyotmelang_second_compact(
     second: &mut [u8],
     len: usize,
     below: u64,
@@ -386,8 +369,7 @@ pub extern "C" fn nyotmelang_second_compact(
     tell(a, values)
 }
 
-#[unsafe(no_mangle)]
-pub extern "C" fn nyotmelang_second_load(
+pub fn nyotmelang_second_load(
     second: &mut [u8],
     len: usize,
     rows: &mut [[u64; 3]; 256],
@@ -404,23 +386,20 @@ pub extern "C" fn nyotmelang_second_load(
 
 // ---- page 0
 
-#[unsafe(no_mangle)]
-pub extern "C" fn nyotmelang_meta_format(db: &[u8], len: usize) -> u8
+pub fn nyotmelang_meta_format(db: &[u8], len: usize) -> u8
     ensures { result ≡ format_no 4096 (file_of db.now len) }
 {
     meta::format_no(db, len)
 }
 
-#[unsafe(no_mangle)]
-pub extern "C" fn nyotmelang_meta_read(db: &[u8], len: usize, values: &mut [u64; 4]) -> u8
+pub fn nyotmelang_meta_read(db: &[u8], len: usize, values: &mut [u64; 4]) -> u8
     ensures { said result values.new ≡ meta_said (meta_in 4096 (file_of db.now len)) }
 {
     let s = meta::read_meta(db, len);
     tell_stored(s, values)
 }
 
-#[unsafe(no_mangle)]
-pub extern "C" fn nyotmelang_meta_put(buf: &mut [u8], at: usize, next: u64, time: u64, mark: u64)
+pub fn nyotmelang_meta_put(buf: &mut [u8], at: usize, next: u64, time: u64, mark: u64)
     ensures { buf.new ≡ sets buf.old at (meta_page 4096 next time mark) }
 {
     let m = Counters {

@@ -14,7 +14,7 @@ use Rattle.frames.specs.Pages.{slot_of}
 use Rattle.frames.specs.Copies.{with_frame}
 use Rattle.world.specs.World.{Mem, World}
 use Rattle.world.specs.Steps.{apply_all}
-use Rattle.world.specs.Calls.{Advance, steps, keeps, advanced}
+use Rattle.world.specs.Calls.{Advance, steps, advanced}
 use Rattle.world.specs.Refusals.{argument_no, front_no}
 use Rattle.world.proofs.CallLaws as laws
 use Rattle.picks.specs.declared.Picked.{Picked}

@@ -20,7 +20,7 @@ use Rattle.frames.specs.Copies.{with_frame}
 use Rattle.world.specs.declared.Slot.TheVariants.{Installed, Empty}
 use Rattle.world.specs.World.{Mem, World}
 use Rattle.world.specs.Steps.{apply_all}
-use Rattle.world.specs.Calls.{Commit, next_time, committed, held, steps, keeps}
+use Rattle.world.specs.Calls.{Commit, next_time, committed, held, steps}
 use Rattle.world.specs.Refusals.{argument_no, front_no}
 use Rattle.world.proofs.FrameLaws.{held-few}
 use Rattle.world.proofs.CallLaws.{commit-steps, commit-keeps, commit-steps-empty, commit-keeps-empty}

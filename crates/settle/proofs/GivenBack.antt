@@ -1,13 +1,13 @@
 -- Laws of pages that get the file's bytes back: the code's turns are those of the definitions; and page 0, which is written to file and frame after them, makes
 -- no difference to them. P is the page size. Assumes nothing.
-use Prim.Native.Nat.{ℕ, zero, suc, ◌+◌, ◌-◌, ◌*◌, ◌/◌, ◌≤◌, ◌<◌, max, min}
+use Prim.Native.Nat.{ℕ, zero, suc, ◌+◌, ◌*◌, ◌/◌, ◌≤◌, ◌<◌, max, min}
 use native.Mathlib.Nat.{suc-mul, mul-le-mul_right, le-div_iff_mul-le}
 use native.Mathlib.Numerals.{add-one}
 use native.Mathlib.Omega.{arith}
 use mathlib.Core.Path.{◌≡◌, refl, sym, ap, ◌∙◌}
 use mathlib.Core.Logic.{◌⊎◌, inl, inr}
 use mathlib.Core.List.{List, [], ◌∷◌}
-use mathlib.Core.Bool.{Bool, true, false, cond}
+use mathlib.Core.Bool.{Bool, true, false}
 use lib.Dec.{eqb}
 use lib.ListN.{length, get_or, drop, length-map}
 use borrow.Author.Tests.{eqb-true, eqb-false, le-leb, lt-leb}
@@ -16,13 +16,13 @@ use Rattle.fields.specs.Files.{File, file_of, lay}
 use Rattle.fields.proofs.Tests.{Order, less, most, order}
 use Rattle.fields.proofs.FileLaws.{lay-within}
 use Rattle.fields.proofs.Stored.{sets-before, sets-in, sets-after, sets-again}
-use Rattle.frames.specs.Pages.{is_in, slot_of, bad_page, any_bad}
+use Rattle.frames.specs.Pages.{is_in, slot_of, bad_page}
 use Rattle.frames.specs.Copies.{page_of, with_frame}
 use Rattle.frames.proofs.Lists.{index_in}
 use Rattle.frames.proofs.CopyLaws.{page-has, page-none, length-page, stored-apart}
 use Rattle.world.proofs.FrameLaws.{raised, raised-turn, raised-end, refilled, refilled-turn, refilled-end}
 use Rattle.picks.specs.declared.Picked.{Picked}
-use Rattle.picks.specs.Picks.{Seat, seat, seats_of, picked_of}
+use Rattle.picks.specs.Picks.{seat, seats_of, picked_of}
 use Rattle.plans.proofs.Meanings.{page-at, slot_at}
 use Rattle.ready.specs.Ready.{refill_to, refill}
 use Rattle.settle.specs.Inside.{past, raised_to, raised_by}

@@ -4,7 +4,7 @@ use native.Mathlib.Omega.{arith}
 use mathlib.Core.Path.{◌≡◌, refl, sym, ap, ◌∙◌}
 use mathlib.Core.List.{List, []}
 use mathlib.Core.Bool.{Bool, true, false, cond}
-use lib.ListN.{length, length-append}
+use lib.ListN.{length}
 use lib.Dec.{ltb}
 use lib.Seq.{take_all}
 use Rattle.fields.specs.declared.CommitTime.{CommitTime}
@@ -29,19 +29,18 @@ use Rattle.world.specs.World.{Files, Mem, World, files_of, with_counts, with_res
 use Rattle.world.specs.Steps.{Step, apply_all}
 use Rattle.world.specs.Calls.{Call, steps, keeps, meta_written}
 use Rattle.world.specs.Refusals.{argument_no, hold_no, call_no, front_no}
-use Rattle.world.specs.Run.{decided}
 use Rattle.world.proofs.FrameLaws.{meta-mem, meta-frames, meta-frames-size}
 use Rattle.world.proofs.CallLaws.{seated-number, inserted-number}
 use Rattle.picks.specs.declared.Picked.{Picked}
 use Rattle.stores.specs.declared.Plan.{Plan}
 use Rattle.stores.specs.Plans.{meant}
-use Rattle.stores.specs.Room.{number_for, carried}
+use Rattle.stores.specs.Room.{number_for}
 use Rattle.form.specs.declared.Store.{Store}
 use Rattle.form.specs.Store.{entries_of, resident_of, world_of, laid_store}
 use Rattle.form.proofs.Arrays.{Sized, length-first}
 use Rattle.form.proofs.Front.{front-means, entries-are, resident-length, resident-are, frames-same}
 use Rattle.ready.specs.declared.Ready.{Ready}
-use Rattle.ready.specs.Ready.{prepared, readied, meta_of, refill, files_to, idle, with_meta}
+use Rattle.ready.specs.Ready.{readied, meta_of, refill, files_to, idle, with_meta}
 use Rattle.ready.specs.Inside.{remembered, ready_for}
 use Rattle.ready.proofs.Prepared.{some-carried, meta-is, ready-as, front-call, ready-no, ready-short, call-hold}
 use Rattle.settle.specs.Inside.{ended_store, slot_for, sealed_store, unless, sealed_as}

@@ -1,5 +1,7 @@
 // The calls that end with page 0: advancing the mark, commit and rollback. Each is made ready here, then carried out, cut, counted or told as crate ready does
 // it. Every public function is total: its contract is one equation, which says the answer, the store and every byte of the buffers.
+#![tactic(auto)]
+
 ghost use Rattle.std.specs.Prelude.{◌≡◌, max};
 ghost use Rattle.world.specs.Calls.{Commit, Rollback, Advance};
 ghost use Rattle.stores.specs.Room.{cut_of};

@@ -3,7 +3,6 @@ use mathlib.Core.Path.{ap, ◌∙◌}
 use Rattle.world.specs.Calls.{Begin}
 use Rattle.ready.specs.Ready.{Prepared, carried_out}
 use Rattle.ready.proofs.Prepared.{ready-called}
-use borrow.Author.Rules.{rules}
 use Rattle.calls.proofs.begin.Goals as goal
 
 pub returns : goal.returns

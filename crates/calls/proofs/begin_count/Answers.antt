@@ -1,7 +1,6 @@
 -- `calls::begin_count` meets its contract: made ready, and counted. Assumes nothing.
 use Rattle.world.specs.Calls.{Begin}
 use Rattle.ready.proofs.Prepared.{counted-done}
-use borrow.Author.Rules.{rules}
 use Rattle.calls.proofs.begin_count.Goals as goal
 
 pub returns : goal.returns

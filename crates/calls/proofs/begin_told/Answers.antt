@@ -2,7 +2,6 @@
 use native.Mathlib.Omega.{arith}
 use Rattle.world.specs.Calls.{Begin}
 use Rattle.ready.proofs.ToldLaws.{told-done}
-use borrow.Author.Rules.{rules}
 use Rattle.calls.proofs.begin_told.Goals as goal
 
 pub returns : goal.returns

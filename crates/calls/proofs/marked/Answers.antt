@@ -1,7 +1,6 @@
 -- `calls::marked` meets its contract: 11, or with one page more. Assumes nothing.
 use Rattle.form.specs.Store.{with_array}
 use Rattle.calls.proofs.Flushed.{marked-full, marked-fine}
-use borrow.Author.Rules.{rules}
 use Rattle.calls.proofs.marked.Goals as goal
 
 pub returns-then-more-ne-ACCEPTED : goal.returns-then-more-ne-ACCEPTED

@@ -1,11 +1,8 @@
 -- `calls::ready_begin` meets its contract: refused by 1 or 14, by 4 or 6, by 7, or made ready. Assumes nothing.
 -- the arrays have the sizes of their types
-use mathlib.Core.Path.{◌≡◌, sym, ◌∙◌}
+use mathlib.Core.Path.{sym, ◌∙◌}
 use Rattle.sorted.proofs.Laws.{length-of-mapped}
 use Rattle.world.specs.Calls.{Begin}
-use Rattle.world.specs.Refusals.{front_no}
-use Rattle.form.specs.Store.{world_of}
-use Rattle.form.proofs.Arrays.{Sized}
 use Rattle.ready.proofs.Prepared.{ready-front}
 use Rattle.calls.proofs.Begun.{begin-short, begin-7, begin-out}
 use borrow.Author.Rules.{rules}

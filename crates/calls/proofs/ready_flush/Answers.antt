@@ -1,11 +1,8 @@
 -- `calls::ready_flush` meets its contract: refused by 1 or 14, by 10, by 11 or marked, nothing to do, refused by 4 or 5, or made ready. Assumes nothing.
 -- the arrays have the sizes of their types
-use mathlib.Core.Path.{◌≡◌, sym, ◌∙◌}
+use mathlib.Core.Path.{sym, ◌∙◌}
 use Rattle.sorted.proofs.Laws.{length-of-mapped}
 use Rattle.world.specs.Calls.{Flush}
-use Rattle.world.specs.Refusals.{front_no}
-use Rattle.form.specs.Store.{world_of}
-use Rattle.form.proofs.Arrays.{Sized}
 use Rattle.ready.proofs.Prepared.{ready-front}
 use Rattle.calls.proofs.Flushed.{flush-10, flush-in, flush-absent, flush-short, flush-out}
 use borrow.Author.Rules.{rules}

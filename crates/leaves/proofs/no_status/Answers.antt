@@ -1,5 +1,4 @@
 -- `leaves::no_status` meets its contract: the buffer, the length, or neither. Assumes nothing.
-use borrow.Author.Rules.{rules}
 use borrow.Author.Tests.{lt-ltb, le-ltb}
 use Rattle.clog.specs.Calls.{unfit}
 use Rattle.leaves.proofs.no_status.Goals as goal

@@ -1,6 +1,5 @@
 -- `leaves::nyotmelang_clog_load` meets its contract: the clog is loaded, its entries are laid over the rows, and the answer is told with their count. Assumes nothing.
 use Rattle.leaves.proofs.Laws.{load-handed}
-use borrow.Author.Rules.{rules}
 use Rattle.leaves.proofs.nyotmelang_clog_load.Goals as goal
 
 pub returns : goal.returns

@@ -1,6 +1,5 @@
 -- `leaves::nyotmelang_clog_write_pages` meets its contract: the call is made, and its answer told. Assumes nothing.
 use Rattle.leaves.proofs.Laws.{answer-left}
-use borrow.Author.Rules.{rules}
 use Rattle.leaves.proofs.nyotmelang_clog_write_pages.Goals as goal
 
 pub returns : goal.returns

@@ -1,7 +1,6 @@
 -- `leaves::nyotmelang_meta_read` meets its contract: what was read is told. Assumes nothing.
 use mathlib.Core.Path.{ap, ◌∙◌}
 use Rattle.leaves.specs.Leaves.{meta_said}
-use borrow.Author.Rules.{rules}
 use Rattle.leaves.proofs.nyotmelang_meta_read.Goals as goal
 
 pub returns : goal.returns

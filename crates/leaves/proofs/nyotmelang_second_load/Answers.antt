@@ -1,6 +1,5 @@
 -- `leaves::nyotmelang_second_load` meets its contract: the file is loaded, its entries are laid over the rows, and the answer is told with their count. Assumes nothing.
 use Rattle.leaves.proofs.Laws.{load-handed}
-use borrow.Author.Rules.{rules}
 use Rattle.leaves.proofs.nyotmelang_second_load.Goals as goal
 
 pub returns : goal.returns

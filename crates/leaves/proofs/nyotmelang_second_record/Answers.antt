@@ -3,7 +3,6 @@ use Rattle.fields.specs.Files.{file_of}
 use Rattle.shrunk.specs.Calls.{recorded_second}
 use Rattle.leaves.specs.Leaves.{recorded_second_tag}
 use Rattle.leaves.proofs.Laws.{tag-none, tag-recorded}
-use borrow.Author.Rules.{rules}
 use Rattle.leaves.proofs.nyotmelang_second_record.Goals as goal
 
 pub returns-then-status-gt2 : goal.returns-then-status-gt2

@@ -1,7 +1,6 @@
 -- `leaves::tell` meets its contract, by cases. Assumes nothing.
 use Rattle.words.specs.Values.{four}
 use Rattle.leaves.specs.Leaves.{said_by}
-use borrow.Author.Rules.{rules}
 use Rattle.leaves.proofs.tell.Goals as goal
 
 pub returns-in-Accepted : goal.returns-in-Accepted

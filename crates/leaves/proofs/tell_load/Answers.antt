@@ -1,6 +1,5 @@
 -- `leaves::tell_load` meets its contract, by cases. Assumes nothing.
 use Rattle.words.specs.Values.{four}
-use borrow.Author.Rules.{rules}
 use Rattle.leaves.proofs.tell_load.Goals as goal
 
 pub returns-in-Accepted : goal.returns-in-Accepted

@@ -1,7 +1,6 @@
 -- `leaves::tell_read` meets its contract, by cases. Assumes nothing.
 use Rattle.words.specs.Values.{four}
 use Rattle.leaves.specs.Leaves.{said_by}
-use borrow.Author.Rules.{rules}
 use Rattle.leaves.proofs.tell_read.Goals as goal
 
 pub returns-in-Found : goal.returns-in-Found

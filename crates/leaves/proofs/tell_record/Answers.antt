@@ -1,7 +1,6 @@
 -- `leaves::tell_record` meets its contract, by cases. Assumes nothing.
 use Rattle.words.specs.Values.{four}
 use Rattle.leaves.specs.Leaves.{said_by}
-use borrow.Author.Rules.{rules}
 use Rattle.leaves.proofs.tell_record.Goals as goal
 
 pub returns-in-Image : goal.returns-in-Image

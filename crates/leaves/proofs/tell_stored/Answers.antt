@@ -1,7 +1,6 @@
 -- `leaves::tell_stored` meets its contract, by cases. Assumes nothing.
 use Rattle.words.specs.Values.{four}
 use Rattle.leaves.specs.Leaves.{meta_said}
-use borrow.Author.Rules.{rules}
 use Rattle.leaves.proofs.tell_stored.Goals as goal
 
 pub returns-in-Meta : goal.returns-in-Meta

@@ -1,7 +1,6 @@
 -- `settle::commit_count` meets its contract: made ready, and counted. Assumes nothing.
 use Rattle.world.specs.Calls.{Commit}
 use Rattle.ready.proofs.Prepared.{counted-done}
-use borrow.Author.Rules.{rules}
 use Rattle.settle.proofs.commit_count.Goals as goal
 
 pub returns : goal.returns

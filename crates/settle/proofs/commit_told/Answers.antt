@@ -2,7 +2,6 @@
 use native.Mathlib.Omega.{arith}
 use Rattle.world.specs.Calls.{Commit}
 use Rattle.ready.proofs.ToldLaws.{told-done}
-use borrow.Author.Rules.{rules}
 use Rattle.settle.proofs.commit_told.Goals as goal
 
 pub returns : goal.returns

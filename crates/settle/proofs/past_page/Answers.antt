@@ -1,8 +1,5 @@
 -- `settle::past_page` meets its contract. Assumes nothing.
-use Prim.Native.Nat.{ℕ, ◌+◌, ◌≤◌, ◌<◌, max}
 use native.Mathlib.Omega.{arith}
-use mathlib.Core.Path.{◌≡◌}
-use borrow.Author.Rules.{rules}
 use Rattle.settle.proofs.GivenBack.{past-none, past_one}
 use Rattle.settle.proofs.past_page.Goals as goal
 

@@ -1,12 +1,9 @@
 -- `settle::ready_rollback` meets its contract: refused by 1 or 14, by 10, nothing to do, or sealed. Assumes nothing.
 -- the arrays have the sizes of their types
 use lib.Dec.{lit≤}
-use mathlib.Core.Path.{◌≡◌, sym, ◌∙◌}
+use mathlib.Core.Path.{sym, ◌∙◌}
 use Rattle.sorted.proofs.Laws.{length-of-mapped}
 use Rattle.world.specs.Calls.{Rollback}
-use Rattle.world.specs.Refusals.{front_no}
-use Rattle.form.specs.Store.{world_of}
-use Rattle.form.proofs.Arrays.{Sized}
 use Rattle.ready.proofs.Prepared.{ready-front}
 use Rattle.settle.proofs.RolledBack.{rollback-10, rollback-none, rollback-out}
 use borrow.Author.Rules.{rules}

@@ -1,7 +1,6 @@
 -- `settle::rollback_count` meets its contract: made ready, and counted. Assumes nothing.
 use Rattle.world.specs.Calls.{Rollback}
 use Rattle.ready.proofs.Prepared.{counted-done}
-use borrow.Author.Rules.{rules}
 use Rattle.settle.proofs.rollback_count.Goals as goal
 
 pub returns : goal.returns

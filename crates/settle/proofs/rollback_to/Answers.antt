@@ -3,7 +3,6 @@ use mathlib.Core.Path.{ap, ◌∙◌}
 use Rattle.world.specs.Calls.{Rollback}
 use Rattle.ready.specs.Ready.{Prepared, cut_at}
 use Rattle.ready.proofs.Prepared.{ready-cut}
-use borrow.Author.Rules.{rules}
 use Rattle.settle.proofs.rollback_to.Goals as goal
 
 pub returns : goal.returns

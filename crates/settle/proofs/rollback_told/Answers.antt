@@ -2,7 +2,6 @@
 use native.Mathlib.Omega.{arith}
 use Rattle.world.specs.Calls.{Rollback}
 use Rattle.ready.proofs.ToldLaws.{told-done}
-use borrow.Author.Rules.{rules}
 use Rattle.settle.proofs.rollback_told.Goals as goal
 
 pub returns : goal.returns

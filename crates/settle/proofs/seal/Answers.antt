@@ -1,6 +1,5 @@
 -- `settle::seal` meets its contract: refused by 4, 5 or 6, by the table's number, by 8, or made ready. Assumes nothing.
 use Rattle.settle.proofs.Sealed.{seal-short, seal-table, seal-seat, seal-out}
-use borrow.Author.Rules.{rules}
 use Rattle.settle.proofs.seal.Goals as goal
 
 pub returns-then-short-ne-ACCEPTED : goal.returns-then-short-ne-ACCEPTED

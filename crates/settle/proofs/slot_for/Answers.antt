@@ -1,6 +1,5 @@
 -- `settle::slot_for` meets its contract: the page is found, or it is not resident. Assumes nothing.
 use Rattle.settle.proofs.Sealed.{slot_at, slot_next}
-use borrow.Author.Rules.{rules}
 use Rattle.settle.proofs.slot_for.Goals as goal
 
 pub returns-in-At : goal.returns-in-At
