@@ -33,7 +33,7 @@ use Rattle.stores.proofs.TellLaws.{told-any}
 use Rattle.form.specs.declared.Store.{Store}
 use Rattle.form.specs.Store.{world_of, laid_store, Outcome, outcome, called, called_on}
 use Rattle.lent.specs.declared.Head.{Head}
-use Rattle.lent.specs.Lent.{Lent, lent, slot_in, store_of, odd_head, odd, held_of, own_of, laid_lent, leaving, left_of, odd_no, unless_odd, called_lent}
+use Rattle.lent.specs.Lent.{Lent, slot_in, store_of, odd_head, odd, held_of, own_of, laid_lent, leaving, left_of, odd_no, unless_odd, called_lent}
 use Rattle.lent.proofs.Laws.{Fit, head-back, rows_same, few-entries, few-resident}
 use Rattle.ready.specs.declared.Ready.{Ready}
 use Rattle.ready.specs.declared.Counted.{Counted}

@@ -1,6 +1,8 @@
 // A call with stores on a store that stands where it is lent, made ready and then carried out. Making ready changes nothing: it gives a small value, the call's
 // number, its stores as a plan, what it changes in the lent arrays, and the head after it. Then the call is carried out, or cut at a store as if power went there,
 // or its stores are counted or told. What is here serves every such call. Every public function is total: its contract is one equation.
+#![tactic(auto)]
+
 ghost use Rattle.std.specs.Prelude.{◌≡◌, cond, ◌*◌};
 ghost use Rattle.std.proofs.lemmas.List.Edits.{sets};
 ghost use Rattle.fields.specs.Files.{file_of};

@@ -1,6 +1,8 @@
 // Begin and flush on a store that stands where it is lent: the calls with stores that leave the frames as they are. Each is made ready, then carried out, cut,
 // counted or told as crate acts does it. Every public function is total: its contract is one equation, which says the answer, the store where it stands and every
 // byte of the buffers.
+#![tactic(auto)]
+
 ghost use Rattle.std.specs.Prelude.{◌≡◌};
 ghost use Rattle.world.specs.Calls.{Begin, Flush};
 ghost use Rattle.stores.specs.Room.{cut_of};

@@ -1,6 +1,8 @@
 // The calls that end with page 0, on a store that stands where it is lent: advancing the mark, commit and rollback. Each is made ready here, then carried out, cut,
 // counted or told as crate acts does it. Every public function is total: its contract is one equation, which says the answer, the store where it stands and every
 // byte of the buffers.
+#![tactic(auto)]
+
 ghost use Rattle.std.specs.Prelude.{◌≡◌, max};
 ghost use Rattle.seats.specs.Seats.{frames_in};
 ghost use Rattle.world.specs.Calls.{Commit, Rollback, Advance};

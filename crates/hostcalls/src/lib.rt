@@ -1,6 +1,8 @@
 // Opening, and the calls with stores, for a host in C or Rust. The store stands in the host's own struct, a head of twelve words and three arrays (crate words), lent
 // with the four buffers of the files. Each function reads the head, makes the call and writes the head that it leaves; the answer is the call's number. A slice is a
 // pointer and a length to the host, an array a pointer.
+#![tactic(auto)]
+
 ghost use Rattle.std.specs.Prelude.{◌≡◌, get_or};
 ghost use Rattle.world.specs.Calls.{Begin, Flush, Commit, Rollback, Advance};
 ghost use Rattle.opening.specs.Opening.{verdict_told};

@@ -2,6 +2,8 @@
 // changes the store or the frames, and only a cut changes the files. The answer is the call's number. The rest goes into four values, all written every time. Of
 // a cut: the lengths of log, database and clog, then 0. Of a count: the number of stores, then 0 0 0. Of a telling: the store's kind (1 append, 2 page, 3 clog,
 // 4 truncation), its offset and its length, then 0; where nothing is told 0 0 0 0.
+#![tactic(auto)]
+
 ghost use Rattle.std.specs.Prelude.{◌≡◌, [], ◌∷◌};
 ghost use Rattle.world.specs.Calls.{Begin, Flush, Commit, Rollback, Advance};
 ghost use Rattle.ready.specs.Ready.{told_by};

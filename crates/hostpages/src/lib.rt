@@ -1,6 +1,8 @@
 // The calls without stores for a host in C or Rust: pages read and written, a transaction put in and handed out, an id or a page allocated, the table told. The store
 // stands in the host's own struct, a head of twelve words and three arrays (crate words); the answer is the call's number. A slice is a pointer and a length to
 // the host, an array a pointer. Numbers that are handed out by a pointer are written in every case, by 0 where there is nothing to tell.
+#![tactic(auto)]
+
 ghost use Rattle.std.specs.Prelude.{◌≡◌, ◌≤◌, length, take};
 ghost use Rattle.sorted.specs.Sorted.{laid_on};
 ghost use Rattle.rows.specs.Rows.{row_of};

@@ -3,22 +3,21 @@ use Prim.Native.Nat.{ℕ, zero, suc, ◌≤◌, ◌<◌}
 use native.Mathlib.Omega.{arith}
 use mathlib.Core.Path.{◌≡◌, refl, sym, ap, subst, ◌∙◌}
 use mathlib.Core.List.{List, [], ◌∷◌, map}
-use mathlib.Core.Bool.{Bool, true, false, cond}
-use lib.ListN.{length, take, get_or, length-map}
-use lib.Dec.{eqb}
+use mathlib.Core.Bool.{false}
+use lib.ListN.{length, get_or}
 use borrow.Author.Tests.{eq-eqb, ne_eqb}
 use Rattle.fields.proofs.Tests.{Order, less, most, order}
-use Rattle.fields.specs.Files.{File, file_of, room, unfit}
+use Rattle.fields.specs.Files.{file_of, room, unfit}
 use Rattle.table.specs.declared.Entry.{Entry}
 use Rattle.table.specs.Entries.{blank, id_of, insert_all}
 use Rattle.rows.specs.declared.Counted.{Counted}
-use Rattle.rows.specs.Rows.{status_in, entry_of, row_of, Rowed, rowed_as, rowed, set_all}
-use Rattle.rows.proofs.Laws.{no_row, row_back, map_first}
+use Rattle.rows.specs.Rows.{status_in, entry_of, row_of, Rowed, rowed}
+use Rattle.rows.proofs.Laws.{no_row, row_back}
 use Rattle.rows.proofs.Several.{all_own, rows_of, holding, held_back, all-fits, all-full}
 use Rattle.clog.specs.Slots.{settled}
 use Rattle.world.specs.World.{Files}
 use Rattle.opening.specs.Opening.{log_table, clog_table, full_table}
-use Rattle.opening.proofs.Tables.{clog-ascending, log-within, clog-within}
+use Rattle.opening.proofs.Tables.{clog-ascending, clog-within}
 use Rattle.sweeps.specs.Sweeps.{listed}
 use Rattle.sweeps.proofs.Laws.{set_ended}
 use Rattle.keyon.specs.Inside.{entries_of, joined}

@@ -3,15 +3,14 @@
 use Prim.Native.Nat.{ℕ, zero, suc, ◌≤◌, ◌<◌}
 use native.Mathlib.Omega.{arith}
 use mathlib.Core.Path.{◌≡◌, refl, sym, ap, ◌∙◌}
-use mathlib.Core.List.{List, map}
+use mathlib.Core.List.{List}
 use mathlib.Core.Bool.{Bool, true, false, cond, ◌||◌}
-use lib.ListN.{length, take}
+use lib.ListN.{length}
 use lib.Dec.{ltb}
 use borrow.Author.Tests.{lt-ltb, le-ltb}
 use Rattle.fields.proofs.Tests.{Order, less, most, order}
-use Rattle.fields.specs.Files.{room, unfit}
-use Rattle.rows.specs.declared.Counted.{Counted}
-use Rattle.rows.specs.Rows.{row_of, Rowed, rowed}
+use Rattle.fields.specs.Files.{room}
+use Rattle.rows.specs.Rows.{Rowed, rowed}
 use Rattle.rows.proofs.Several.{rows_of, holding, held_back}
 use Rattle.meta.specs.Page.{format_no}
 use Rattle.world.specs.World.{Files}
@@ -24,7 +23,7 @@ use Rattle.survey.specs.declared.Found.{Found}
 use Rattle.survey.specs.Survey.{Survey, survey_of, found, surveyed}
 use Rattle.survey.proofs.Logged.{logged-fits, logged-full}
 use Rattle.keyon.specs.declared.Tested.{Tested}
-use Rattle.keyon.specs.Inside.{room_by, joined, Holds, Tests}
+use Rattle.keyon.specs.Inside.{room_by, joined, Tests}
 use Rattle.keyon.proofs.Tables.{joined-fits, joined-full, joined-none}
 
 or-first : (n m : ℕ) → (n ≡ 0 → ⊥) → or_else n m ≡ n

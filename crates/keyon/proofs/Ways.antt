@@ -1,10 +1,10 @@
 -- Laws for the ways out of `open`, over the page size P: refused with nothing changed, stopped at a bad record with the images laid, and accepted. The premises are
 -- what the functions that it calls promise. Assumes nothing.
-use Prim.Native.Nat.{ℕ, zero, suc, ◌≤◌}
+use Prim.Native.Nat.{ℕ, zero, suc}
 use native.Mathlib.Omega.{arith}
-use mathlib.Core.Path.{◌≡◌, refl, sym, ap, ◌∙◌}
+use mathlib.Core.Path.{◌≡◌, refl, ap, ◌∙◌}
 use mathlib.Core.List.{List, [], ◌∷◌, map}
-use mathlib.Core.Bool.{Bool, true, false, ◌||◌}
+use mathlib.Core.Bool.{false, ◌||◌}
 use lib.Dec.{eqb}
 use lib.ListN.{length, take}
 use Rattle.fields.specs.Files.{File, file_of, header}
@@ -20,13 +20,10 @@ use Rattle.meta.specs.Page.{stored_told, meta_in}
 use Rattle.frames.specs.Pages.{empty_frames, empty_touched}
 use Rattle.world.specs.declared.Lens.{Lens}
 use Rattle.world.specs.World.{files_of}
-use Rattle.form.specs.declared.Store.{Store}
-use Rattle.form.specs.Store.{no_store, Given}
+use Rattle.form.specs.Store.{Given}
 use Rattle.lent.specs.declared.Head.{Head}
 use Rattle.lent.specs.Lent.{Lent, lent, head_of, laid_lent, leaving, left_of}
-use Rattle.opening.specs.declared.Verdict.TheVariants.{Accepted, Refused, Torn, Unknown}
-use Rattle.opening.specs.declared.Opened.{Opened}
-use Rattle.opening.specs.Opening.{open_no, log_table, full_table, has_laid, opened_as, opened}
+use Rattle.opening.specs.Opening.{open_no, log_table, full_table, has_laid, opened}
 use Rattle.replay.specs.Replay.{laid_from}
 use Rattle.opens.specs.Inside.{Loadable, clog_by, store_at_rest, store_by}
 use Rattle.opens.proofs.Ways.{out-refused, out-torn, out-unknown, ready, out-accepted}

@@ -1,6 +1,6 @@
 -- From what an accepted opening leaves in lent arrays to worlds: read again, it is the world of crate opening, and no part of it is odd. So a theorem over that world
 -- speaks of what is left here, and of the calls that follow. P is the page size. Assumes nothing.
-use Prim.Native.Nat.{ℕ, ◌/◌, ◌≤◌}
+use Prim.Native.Nat.{ℕ, ◌≤◌}
 use native.Mathlib.Omega.{arith}
 use mathlib.Core.Path.{◌≡◌, refl, sym, ap, ◌∙◌}
 use mathlib.Core.List.{List, [], ◌∷◌, map}

@@ -1,5 +1,7 @@
 // Opening a store where it is lent: test, lay the images, clog, rows, head, truncate. What comes out is defined in specs/Keyon.antt over the crate opening. Every test
 // that can refuse with 1, 12 or 4 to 7 stands before the first change, and no lent array changes before the opening is accepted: both tables are made in scratch.
+#![tactic(auto)]
+
 ghost use Rattle.std.specs.Prelude.{◌≡◌, map, false, ◌||◌, ◌≤◌, max, eqb, length, take};
 ghost use Rattle.fields.specs.Files.{file_of, unfit};
 ghost use Rattle.sorted.specs.Sorted.{laid_on};

@@ -1,6 +1,5 @@
 -- `acts::bare` meets its contract. Assumes nothing.
 use Rattle.acts.proofs.Records.{bare-out}
-use borrow.Author.Rules.{rules}
 use Rattle.acts.proofs.bare.Goals as goal
 
 pub returns : goal.returns

@@ -1,6 +1,5 @@
 -- `acts::carry_files` meets its contract: the stores, the pages that get their bytes back, page 0. Assumes nothing.
 use Rattle.acts.proofs.Records.{files-out}
-use borrow.Author.Rules.{rules}
 use Rattle.acts.proofs.carry_files.Goals as goal
 
 pub returns : goal.returns

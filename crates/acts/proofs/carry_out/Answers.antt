@@ -2,7 +2,6 @@
 use mathlib.Core.Path.{refl}
 use Rattle.acts.specs.Made.{lens_head}
 use Rattle.acts.proofs.Records.{whole_out}
-use borrow.Author.Rules.{rules}
 use Rattle.acts.proofs.carry_out.Goals as goal
 
 pub returns : goal.returns

@@ -1,7 +1,6 @@
 -- `acts::change_arrays` meets its contract: rows, resident pages, touched pages. Assumes nothing.
 use Rattle.acts.specs.Made.{counted_head}
 use Rattle.acts.proofs.Records.{arrays-out}
-use borrow.Author.Rules.{rules}
 use Rattle.acts.proofs.change_arrays.Goals as goal
 
 pub returns : goal.returns

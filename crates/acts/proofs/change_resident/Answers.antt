@@ -1,7 +1,6 @@
 -- `acts::change_resident` meets its contract: nothing is asked, or page 0 is seated. Assumes nothing.
 use borrow.Author.Tests.{not-false, not-true}
 use Rattle.acts.specs.Made.{resident_after}
-use borrow.Author.Rules.{rules}
 use Rattle.acts.proofs.change_resident.Goals as goal
 
 pub returns-then-not-meta : goal.returns-then-not-meta

@@ -1,6 +1,5 @@
 -- `acts::change_touched` meets its contract, whichever the change. Assumes nothing.
 use Rattle.acts.specs.Made.{touched_after}
-use borrow.Author.Rules.{rules}
 use Rattle.acts.proofs.change_touched.Goals as goal
 
 pub returns-in-Same : goal.returns-in-Same

@@ -1,6 +1,5 @@
 -- `acts::count_of` meets its contract. Assumes nothing.
 use Rattle.acts.specs.Made.{counted_made}
-use borrow.Author.Rules.{rules}
 use Rattle.acts.proofs.count_of.Goals as goal
 
 pub returns : goal.returns

@@ -1,6 +1,5 @@
 -- `acts::cut_at` meets its contract. Assumes nothing.
 use Rattle.acts.proofs.Records.{cut_out}
-use borrow.Author.Rules.{rules}
 use Rattle.acts.proofs.cut_at.Goals as goal
 
 pub returns : goal.returns

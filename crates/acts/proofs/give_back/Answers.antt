@@ -1,12 +1,10 @@
 -- `acts::give_back` meets its contract: after turn i the first i pages have their bytes back. Assumes nothing.
 use mathlib.Core.Path.{◌≡◌, refl, ap, ◌∙◌}
-use Prim.Native.Nat.{ℕ, ◌-◌, ◌≤◌}
+use Prim.Native.Nat.{ℕ}
 use native.Mathlib.Omega.{arith}
-use lib.ListN.{length}
 use Rattle.fields.specs.Files.{file_of}
 use Rattle.ready.specs.Ready.{refill_to}
 use Rattle.ready.proofs.Prepared.{refill-turn, refill-start}
-use borrow.Author.Rules.{rules}
 use Rattle.acts.proofs.give_back.Goals as goal
 
 pub loop-i-init : goal.loop-i-init

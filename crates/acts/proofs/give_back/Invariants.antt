@@ -1,12 +1,9 @@
 -- `acts::give_back` meets its contract: after turn i the first i pages have their bytes back. Assumes nothing.
-use mathlib.Core.Path.{◌≡◌, refl, ap, ◌∙◌}
-use Prim.Native.Nat.{ℕ, ◌-◌, ◌≤◌}
-use native.Mathlib.Omega.{arith}
+use mathlib.Core.Path.{◌≡◌}
+use Prim.Native.Nat.{◌-◌, ◌≤◌}
 use lib.ListN.{length}
 use Rattle.fields.specs.Files.{file_of}
 use Rattle.ready.specs.Ready.{refill_to}
-use Rattle.ready.proofs.Prepared.{refill-turn, refill-start}
-use borrow.Author.Rules.{rules}
 use Rattle.acts.proofs.give_back.Given as goal
 
 abbrev pub invariant-loop-i : goal.invariant-loop-i

@@ -5,7 +5,6 @@ use native.Mathlib.Omega.{arith}
 use borrow.Author.Tests.{not-false, not-true}
 use Rattle.fields.proofs.Stored.{sets-out}
 use Rattle.ready.specs.Ready.{meta_of}
-use borrow.Author.Rules.{rules}
 use Rattle.acts.proofs.lay_meta.Goals as goal
 
 pub returns-then-not-meta : goal.returns-then-not-meta

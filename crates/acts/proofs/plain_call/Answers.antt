@@ -1,6 +1,5 @@
 -- `acts::plain_call` meets its contract. Assumes nothing.
 use Rattle.acts.proofs.Records.{plain_out}
-use borrow.Author.Rules.{rules}
 use Rattle.acts.proofs.plain_call.Goals as goal
 
 pub returns : goal.returns

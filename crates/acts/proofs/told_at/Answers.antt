@@ -1,6 +1,5 @@
 -- `acts::told_at` meets its contract. Assumes nothing.
 use Rattle.acts.proofs.Records.{told-out}
-use borrow.Author.Rules.{rules}
 use Rattle.acts.proofs.told_at.Goals as goal
 
 pub returns : goal.returns

@@ -3,7 +3,6 @@ use mathlib.Core.Path.{◌∙◌}
 use Rattle.world.specs.Calls.{Flush}
 use Rattle.lent.specs.Lent.{lent}
 use Rattle.acts.proofs.Laws.{count-called}
-use borrow.Author.Rules.{rules}
 use Rattle.begins.proofs.flush_count.Goals as goal
 
 pub returns : goal.returns

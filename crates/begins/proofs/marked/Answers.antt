@@ -1,6 +1,5 @@
 -- `begins::marked` meets its contract: 11, or with one page more. Assumes nothing.
 use Rattle.begins.proofs.Flushed.{marked-full, marked-fine}
-use borrow.Author.Rules.{rules}
 use Rattle.begins.proofs.marked.Goals as goal
 
 pub returns-then-more-ne-ACCEPTED : goal.returns-then-more-ne-ACCEPTED

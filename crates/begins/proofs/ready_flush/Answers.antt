@@ -1,11 +1,7 @@
 -- `begins::ready_flush` meets its contract: refused by 1 or 14, by 10, by 11 or marked, nothing to do, refused by 4 or 5, or made ready. Assumes nothing.
 -- the arrays have the sizes of their types
-use mathlib.Core.Path.{◌≡◌}
-use mathlib.Core.Bool.{false}
-use Rattle.world.specs.Refusals.{front_no}
-use Rattle.form.specs.Store.{world_of}
-use Rattle.lent.specs.Lent.{lent, store_of, odd}
-use Rattle.lent.proofs.Laws.{Fit, front-passed}
+use Rattle.lent.specs.Lent.{lent}
+use Rattle.lent.proofs.Laws.{front-passed}
 use Rattle.acts.proofs.Laws.{made-front}
 use Rattle.world.specs.Calls.{Flush}
 use Rattle.begins.proofs.Flushed.{flush-10-made, flush-in-made, flush-absent-made, flush-short-made, flush-made}

@@ -4,7 +4,6 @@ use Rattle.world.specs.Calls.{Advance}
 use Rattle.lent.specs.Lent.{lent}
 use Rattle.acts.specs.Made.{Readied, left_by}
 use Rattle.acts.proofs.Laws.{left-called}
-use borrow.Author.Rules.{rules}
 use Rattle.ends.proofs.advance.Goals as goal
 
 pub returns : goal.returns

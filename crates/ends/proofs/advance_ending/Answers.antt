@@ -1,6 +1,5 @@
 -- `ends::advance_ending` meets its contract. Assumes nothing.
 use Rattle.ends.proofs.Advanced.{advance-ending}
-use borrow.Author.Rules.{rules}
 use Rattle.ends.proofs.advance_ending.Goals as goal
 
 pub returns : goal.returns

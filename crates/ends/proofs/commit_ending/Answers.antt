@@ -1,6 +1,5 @@
 -- `ends::commit_ending` meets its contract. Assumes nothing.
 use Rattle.ends.proofs.Committed.{commit-ending}
-use borrow.Author.Rules.{rules}
 use Rattle.ends.proofs.commit_ending.Goals as goal
 
 pub returns : goal.returns

@@ -3,7 +3,6 @@ use mathlib.Core.Path.{◌∙◌}
 use Rattle.world.specs.Calls.{Commit}
 use Rattle.lent.specs.Lent.{lent}
 use Rattle.acts.proofs.Laws.{cut-called}
-use borrow.Author.Rules.{rules}
 use Rattle.ends.proofs.commit_to.Goals as goal
 
 pub returns : goal.returns

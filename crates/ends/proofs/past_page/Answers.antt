@@ -1,6 +1,5 @@
 -- `ends::past_page` meets its contract. Assumes nothing.
 use native.Mathlib.Omega.{arith}
-use borrow.Author.Rules.{rules}
 use Rattle.settle.proofs.GivenBack.{past-none, past_one}
 use Rattle.ends.proofs.past_page.Goals as goal
 

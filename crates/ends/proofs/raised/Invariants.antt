@@ -1,10 +1,7 @@
 -- `ends::raised` meets its contract: after turn i the count is past the first i pages. Assumes nothing.
-use mathlib.Core.Path.{◌≡◌, ap, ◌∙◌}
-use Prim.Native.Nat.{ℕ, ◌-◌, ◌≤◌}
-use native.Mathlib.Omega.{arith}
-use borrow.Author.Rules.{rules}
+use mathlib.Core.Path.{◌≡◌}
+use Prim.Native.Nat.{◌-◌, ◌≤◌}
 use Rattle.settle.specs.Inside.{raised_to}
-use Rattle.settle.proofs.GivenBack.{raised-start, raised-next}
 use Rattle.ends.proofs.raised.Given as goal
 
 abbrev pub invariant-loop-i : goal.invariant-loop-i

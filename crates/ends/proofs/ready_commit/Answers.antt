@@ -1,11 +1,7 @@
 -- `ends::ready_commit` meets its contract: refused by 1 or 14, nothing to do, or sealed. Assumes nothing.
 -- the arrays have the sizes of their types
-use mathlib.Core.Path.{◌≡◌}
-use mathlib.Core.Bool.{false}
-use Rattle.world.specs.Refusals.{front_no}
-use Rattle.form.specs.Store.{world_of}
-use Rattle.lent.specs.Lent.{lent, store_of, odd}
-use Rattle.lent.proofs.Laws.{Fit, front-passed}
+use Rattle.lent.specs.Lent.{lent}
+use Rattle.lent.proofs.Laws.{front-passed}
 use Rattle.acts.proofs.Laws.{made-front}
 use native.Mathlib.Omega.{arith}
 use Rattle.world.specs.Calls.{Commit}

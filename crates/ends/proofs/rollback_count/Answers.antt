@@ -3,7 +3,6 @@ use mathlib.Core.Path.{◌∙◌}
 use Rattle.world.specs.Calls.{Rollback}
 use Rattle.lent.specs.Lent.{lent}
 use Rattle.acts.proofs.Laws.{count-called}
-use borrow.Author.Rules.{rules}
 use Rattle.ends.proofs.rollback_count.Goals as goal
 
 pub returns : goal.returns

@@ -1,6 +1,5 @@
 -- `ends::rollback_ending` meets its contract. Assumes nothing.
 use Rattle.ends.proofs.RolledBack.{rollback-ending}
-use borrow.Author.Rules.{rules}
 use Rattle.ends.proofs.rollback_ending.Goals as goal
 
 pub returns : goal.returns

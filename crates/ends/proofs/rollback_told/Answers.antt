@@ -3,7 +3,6 @@ use native.Mathlib.Omega.{arith}
 use Rattle.world.specs.Calls.{Rollback}
 use Rattle.lent.specs.Lent.{lent}
 use Rattle.acts.proofs.Laws.{told-called}
-use borrow.Author.Rules.{rules}
 use Rattle.ends.proofs.rollback_told.Goals as goal
 
 pub returns : goal.returns

@@ -1,6 +1,5 @@
 -- `ends::seal` meets its contract: refused by 4, 5 or 6, by the table, by 8, or made ready. Assumes nothing.
 use Rattle.ends.proofs.Sealed.{seal-short, seal-table, seal-seat, seal-out}
-use borrow.Author.Rules.{rules}
 use Rattle.ends.proofs.seal.Goals as goal
 
 pub returns-then-short-ne-ACCEPTED : goal.returns-then-short-ne-ACCEPTED

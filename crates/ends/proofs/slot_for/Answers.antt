@@ -1,7 +1,6 @@
 -- `ends::slot_for` meets its contract: the page is found, or it is not resident. Assumes nothing.
 use Rattle.seats.specs.Seats.{frames_in}
 use Rattle.settle.proofs.Sealed.{slot_at, slot_next}
-use borrow.Author.Rules.{rules}
 use Rattle.ends.proofs.slot_for.Goals as goal
 
 pub returns-in-At : goal.returns-in-At

@@ -2,7 +2,6 @@
 use Rattle.world.specs.Calls.{Advance}
 use Rattle.lent.specs.Lent.{lent, called_lent}
 use Rattle.words.proofs.Laws.{stood}
-use borrow.Author.Rules.{rules}
 use Rattle.hostcalls.proofs.nyotmelang_pager_advance.Goals as goal
 
 pub returns : goal.returns

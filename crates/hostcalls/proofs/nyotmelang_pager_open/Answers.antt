@@ -3,7 +3,6 @@ use mathlib.Core.Path.{refl}
 use Rattle.lent.specs.Lent.{lent}
 use Rattle.keyon.specs.Keyon.{opened_lent}
 use Rattle.hostcalls.proofs.Laws.{stood-open}
-use borrow.Author.Rules.{rules}
 use Rattle.hostcalls.proofs.nyotmelang_pager_open.Goals as goal
 
 pub returns : goal.returns

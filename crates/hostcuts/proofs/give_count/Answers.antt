@@ -2,7 +2,6 @@
 use mathlib.Core.Path.{ap}
 use mathlib.Core.List.{List}
 use Prim.Native.Nat.{ℕ}
-use borrow.Author.Rules.{rules}
 use Rattle.words.specs.Values.{said, four}
 use Rattle.hostcuts.specs.Cuts.{count_given}
 use Rattle.hostcuts.proofs.give_count.Goals as goal

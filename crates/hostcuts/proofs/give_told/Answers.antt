@@ -1,6 +1,5 @@
 -- `hostcuts::give_told` meets its contract: nothing is told, or kind, offset and length. Assumes nothing.
 use Rattle.hostcuts.proofs.Laws.{told-nothing, told-store}
-use borrow.Author.Rules.{rules}
 use Rattle.hostcuts.proofs.give_told.Goals as goal
 
 pub returns-in_default : goal.returns-in_default

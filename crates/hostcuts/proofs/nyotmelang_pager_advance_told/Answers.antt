@@ -3,7 +3,6 @@ use Rattle.world.specs.Calls.{Advance}
 use Rattle.lent.specs.Lent.{lent}
 use Rattle.acts.specs.Partly.{told_lent}
 use Rattle.hostcuts.proofs.Laws.{told-given}
-use borrow.Author.Rules.{rules}
 use Rattle.hostcuts.proofs.nyotmelang_pager_advance_told.Goals as goal
 
 pub returns : goal.returns

@@ -3,7 +3,6 @@ use Rattle.world.specs.Calls.{Begin}
 use Rattle.lent.specs.Lent.{lent}
 use Rattle.acts.specs.Partly.{counted_lent}
 use Rattle.hostcuts.proofs.Laws.{count-given}
-use borrow.Author.Rules.{rules}
 use Rattle.hostcuts.proofs.nyotmelang_pager_begin_count.Goals as goal
 
 pub returns : goal.returns

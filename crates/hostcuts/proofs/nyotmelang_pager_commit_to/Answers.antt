@@ -3,7 +3,6 @@ use Rattle.world.specs.Calls.{Commit}
 use Rattle.lent.specs.Lent.{lent}
 use Rattle.acts.specs.Partly.{cut_lent}
 use Rattle.hostcuts.proofs.Laws.{cut-given}
-use borrow.Author.Rules.{rules}
 use Rattle.hostcuts.proofs.nyotmelang_pager_commit_to.Goals as goal
 
 pub returns : goal.returns

@@ -1,10 +1,9 @@
 -- `hostpages::hand_out` meets its contract. The loop's invariant: the first i places have the first i rows, the others are as they were. Assumes nothing.
 use borrow.Author.Rules.{rules}
-use Prim.Native.Nat.{ℕ, ◌≤◌, ◌-◌, min}
-use mathlib.Core.Path.{◌≡◌, refl, sym, ap, ◌∙◌}
-use mathlib.Core.List.{List, ◌++◌}
+use Prim.Native.Nat.{◌≤◌, min}
+use mathlib.Core.Path.{◌≡◌, refl}
 use native.Mathlib.Omega.{arith}
-use lib.ListN.{length, length-set, take, drop}
+use lib.ListN.{length, length-set}
 use Rattle.sorted.proofs.Laws.{take_min, length-min}
 use Rattle.rows.proofs.Several.{copy-on}
 use Rattle.hostpages.proofs.hand_out.Goals as goal

@@ -4,12 +4,6 @@ use Rattle.hostpages.specs.Hosted.{id_told}
 use mathlib.Core.Path.{refl}
 use Rattle.lent.specs.Lent.{lent}
 use Rattle.hostpages.proofs.Laws.{stood-beside}
-use borrow.Author.Rules.{rules}
-use Rattle.hostpages.proofs.nyotmelang_pager_allocate_id.Reads as reads
-use Rattle.hostpages.proofs.nyotmelang_pager_allocate_id.Lts as lts
-use Rattle.still.proofs.allocate_id.Reads as allocate-id-reads
-use Rattle.words.proofs.head_in.Reads as head-in-reads
-use Rattle.words.proofs.put_head.Reads as put-head-reads
 use Rattle.hostpages.proofs.nyotmelang_pager_allocate_id.Goals as goal
 
 pub returns : goal.returns

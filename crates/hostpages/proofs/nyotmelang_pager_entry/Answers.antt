@@ -2,12 +2,6 @@
 use Rattle.lent.specs.Lent.{lent}
 use Rattle.still.specs.Entries.{entry_read, entry_told}
 use Rattle.hostpages.proofs.Laws.{entry_at}
-use borrow.Author.Rules.{rules}
-use Rattle.hostpages.proofs.nyotmelang_pager_entry.Reads as reads
-use Rattle.hostpages.proofs.nyotmelang_pager_entry.Lts as lts
-use Rattle.hostpages.proofs.values_of.Reads as values-of-reads
-use Rattle.still.proofs.entry_at.Reads as entry-at-reads
-use Rattle.words.proofs.head_in.Reads as head-in-reads
 use Rattle.hostpages.proofs.nyotmelang_pager_entry.Goals as goal
 
 pub returns : goal.returns

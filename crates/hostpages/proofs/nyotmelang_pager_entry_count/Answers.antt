@@ -2,11 +2,6 @@
 use Rattle.lent.specs.Lent.{lent}
 use Rattle.still.specs.Entries.{entries_counted}
 use Rattle.hostpages.proofs.Laws.{counted-at}
-use borrow.Author.Rules.{rules}
-use Rattle.hostpages.proofs.nyotmelang_pager_entry_count.Reads as reads
-use Rattle.hostpages.proofs.nyotmelang_pager_entry_count.Lts as lts
-use Rattle.still.proofs.entry_count.Reads as entry-count-reads
-use Rattle.words.proofs.head_in.Reads as head-in-reads
 use Rattle.hostpages.proofs.nyotmelang_pager_entry_count.Goals as goal
 
 pub returns : goal.returns

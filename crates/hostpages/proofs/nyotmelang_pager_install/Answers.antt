@@ -2,12 +2,6 @@
 use Rattle.world.specs.Calls.{Install}
 use Rattle.lent.specs.Lent.{lent, called_lent}
 use Rattle.words.proofs.Laws.{stood}
-use borrow.Author.Rules.{rules}
-use Rattle.hostpages.proofs.nyotmelang_pager_install.Reads as reads
-use Rattle.hostpages.proofs.nyotmelang_pager_install.Lts as lts
-use Rattle.still.proofs.install.Reads as install-reads
-use Rattle.words.proofs.head_in.Reads as head-in-reads
-use Rattle.words.proofs.put_head.Reads as put-head-reads
 use Rattle.hostpages.proofs.nyotmelang_pager_install.Goals as goal
 
 pub returns : goal.returns

@@ -3,7 +3,6 @@ use Rattle.lent.specs.Lent.{lent}
 use Rattle.still.specs.Entries.{entries_counted}
 use Rattle.words.specs.Words.{head_in}
 use Rattle.hostpages.proofs.Laws.{counted-at, table-no, table-short, table-all}
-use borrow.Author.Rules.{rules}
 use Rattle.hostpages.proofs.nyotmelang_pager_table.Goals as goal
 
 pub returns-then-all-ne-ACCEPTED : goal.returns-then-all-ne-ACCEPTED

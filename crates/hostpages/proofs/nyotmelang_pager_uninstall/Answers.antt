@@ -4,12 +4,6 @@ use Rattle.hostpages.specs.Hosted.{gone_told}
 use mathlib.Core.Path.{refl}
 use Rattle.lent.specs.Lent.{lent}
 use Rattle.hostpages.proofs.Laws.{stood-beside}
-use borrow.Author.Rules.{rules}
-use Rattle.hostpages.proofs.nyotmelang_pager_uninstall.Reads as reads
-use Rattle.hostpages.proofs.nyotmelang_pager_uninstall.Lts as lts
-use Rattle.still.proofs.uninstall.Reads as uninstall-reads
-use Rattle.words.proofs.head_in.Reads as head-in-reads
-use Rattle.words.proofs.put_head.Reads as put-head-reads
 use Rattle.hostpages.proofs.nyotmelang_pager_uninstall.Goals as goal
 
 pub returns : goal.returns

@@ -1,5 +1,4 @@
 -- `hostpages::row_of` meets its contract, by what is known in each arm. Assumes nothing.
-use borrow.Author.Rules.{rules}
 use Rattle.hostpages.proofs.row_of.Goals as goal
 
 pub returns-in-Active : goal.returns-in-Active

@@ -1,5 +1,4 @@
 -- `hostpages::values_of` meets its contract, by what is known in each arm. Assumes nothing.
-use borrow.Author.Rules.{rules}
 use Rattle.hostpages.proofs.values_of.Goals as goal
 
 pub returns : goal.returns

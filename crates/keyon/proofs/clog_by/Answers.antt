@@ -2,7 +2,6 @@
 use mathlib.Core.Path.{◌∙◌}
 use Rattle.fields.specs.Files.{file_of}
 use Rattle.opens.proofs.Clogs.{is-reset}
-use borrow.Author.Rules.{rules}
 use Rattle.keyon.proofs.clog_by.Goals as goal
 
 pub returns-in-Meta : goal.returns-in-Meta

@@ -1,5 +1,4 @@
 -- `keyon::head_by` meets its contract, arm by arm. Assumes nothing.
-use borrow.Author.Rules.{rules}
 use mathlib.Core.Path.{◌∙◌}
 use Rattle.keyon.proofs.head_by.Goals as goal
 

@@ -1,6 +1,5 @@
 -- `keyon::join` meets its contract. Assumes nothing.
-use borrow.Author.Rules.{rules}
-use mathlib.Core.Path.{◌≡◌, ap, ◌∙◌}
+use mathlib.Core.Path.{ap, ◌∙◌}
 use borrow.Author.Tests.{eq-eqb, ne_eqb}
 use Rattle.rows.specs.Rows.{Rowed, set_all}
 use Rattle.keyon.specs.Inside.{entries_of, joined}

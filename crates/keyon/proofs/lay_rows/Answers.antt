@@ -1,5 +1,4 @@
 -- `keyon::lay_rows` meets its contract, arm by arm. Assumes nothing.
-use borrow.Author.Rules.{rules}
 use mathlib.Core.Path.{◌∙◌}
 use Rattle.keyon.proofs.lay_rows.Goals as goal
 

@@ -1,10 +1,9 @@
 -- `keyon::load_clog` meets its contract: opened, settled, recorded. Assumes nothing.
 -- the file at entry, and what it is once opened and settled
-use borrow.Author.Rules.{rules}
-use mathlib.Core.Path.{◌≡◌, sym, ap, ◌∙◌}
+use mathlib.Core.Path.{sym, ap, ◌∙◌}
 use mathlib.Core.List.{List, map}
 use lib.ListN.{take}
-use Rattle.fields.specs.Files.{File, file_of}
+use Rattle.fields.specs.Files.{file_of}
 use Rattle.table.specs.declared.Entry.{Entry}
 use Rattle.rows.specs.Rows.{entry_of}
 use Rattle.rows.proofs.Laws.{map_first}

@@ -1,5 +1,4 @@
 -- `keyon::log_time` meets its contract. Assumes nothing.
-use borrow.Author.Rules.{rules}
 use Rattle.table.specs.Entries.{empty_table}
 use Rattle.table.proofs.Facts.{list-laid}
 use Rattle.keyon.proofs.log_time.Goals as goal

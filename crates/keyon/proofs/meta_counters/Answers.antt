@@ -1,5 +1,4 @@
 -- `keyon::meta_counters` meets its contract. Assumes nothing.
-use borrow.Author.Rules.{rules}
 use Rattle.table.specs.Entries.{empty_table}
 use Rattle.table.proofs.Facts.{list-laid}
 use Rattle.opens.specs.Inside.{meta_counters}

@@ -1,17 +1,11 @@
 -- `keyon::open` meets its contract: a law for each way out. Assumes nothing.
 -- what came in, the store that stood there, the scratch tables after the tests, and the database after its images are laid
-use borrow.Author.Rules.{rules}
-use mathlib.Core.Path.{◌≡◌, sym, ap, ◌∙◌}
-use mathlib.Core.List.{List}
-use Prim.Native.Nat.{ℕ}
+use mathlib.Core.Path.{sym, ◌∙◌}
 use borrow.Author.Tests.{not-true, not-false}
-use Rattle.fields.specs.Files.{File, file_of}
+use Rattle.fields.specs.Files.{file_of}
 use Rattle.fields.specs.Answers.{length_of}
-use Rattle.world.specs.World.{files_of}
-use Rattle.lent.specs.Lent.{Lent, lent}
-use Rattle.opening.specs.Opening.{open_no, log_table, full_table}
+use Rattle.lent.specs.Lent.{lent}
 use Rattle.opens.proofs.Ways.{lays-zero, is_cut}
-use Rattle.keyon.specs.Inside.{Holds}
 use Rattle.keyon.proofs.Ways.{wake-refused, wake-torn, wake-unknown, wake-ready, wake-accepted}
 use Rattle.keyon.proofs.open.Goals as goal
 

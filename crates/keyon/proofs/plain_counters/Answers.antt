@@ -1,5 +1,4 @@
 -- `keyon::plain_counters` meets its contract. Assumes nothing.
-use borrow.Author.Rules.{rules}
 use Rattle.opens.specs.Inside.{plain_counters}
 use Rattle.keyon.proofs.plain_counters.Goals as goal
 

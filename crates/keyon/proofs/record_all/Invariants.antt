@@ -1,20 +1,11 @@
 -- `keyon::record_all` meets its contract. The loop's invariant: recording the entries that are left gives what recording all gives, and the length stays within the buffer. The measure is how many are left. Assumes nothing.
-use borrow.Author.Rules.{rules}
-use mathlib.Core.Path.{◌≡◌, refl, sym, ap, ◌∙◌}
+use mathlib.Core.Path.{◌≡◌}
 use mathlib.Core.List.{map}
-use Prim.Native.Nat.{◌-◌, ◌≤◌, min}
-use native.Mathlib.Omega.{arith}
-use lib.ListN.{length, take, length-map}
+use Prim.Native.Nat.{◌≤◌, min}
+use lib.ListN.{length, take}
 use Rattle.fields.specs.Files.{file_of}
-use Rattle.fields.proofs.FileLaws.{fit-means}
-use Rattle.sorted.proofs.Laws.{take_min}
-use Rattle.table.specs.declared.Entry.{Entry}
-use Rattle.table.specs.Entries.{id_of}
 use Rattle.rows.specs.Rows.{entry_of}
-use Rattle.clog.specs.Slots.{code_of, record_all}
-use Rattle.clog.specs.Calls.{recorded}
-use Rattle.opens.proofs.Clogs.{put}
-use Rattle.keyon.proofs.Tables.{entry-there}
+use Rattle.clog.specs.Slots.{record_all}
 use Rattle.keyon.proofs.record_all.Given as goal
 
 abbrev pub invariant-loop-i : goal.invariant-loop-i

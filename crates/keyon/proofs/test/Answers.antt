@@ -1,12 +1,8 @@
 -- `keyon::test` meets its contract: a law for each way out. Assumes nothing.
 -- what came in, and what the first two tests told
-use borrow.Author.Rules.{rules}
-use mathlib.Core.Path.{◌≡◌, sym, ap, ◌∙◌}
-use mathlib.Core.Bool.{false}
+use mathlib.Core.Path.{sym, ◌∙◌}
 use Rattle.rows.specs.Rows.{rowed}
-use Rattle.meta.specs.Page.{format_no}
-use Rattle.world.specs.World.{Files, files_of}
-use Rattle.world.specs.Refusals.{bad_buffers}
+use Rattle.world.specs.World.{files_of}
 use Rattle.keyon.proofs.Tests.{test-unfit, test-format, test-room, test-full, test-ending, test-passed}
 use Rattle.keyon.proofs.test.Goals as goal
 
