@@ -94,36 +94,21 @@ pub fn nyotmelang_log_start(log: &[u8], len: usize) -> usize
     wal::start_of(log, len)
 }
 
-pub fn nyotmelang_log_read(
-    log: &[u8],
-    len: usize,
-    at: usize,
-    values: &mut [u64; 4],
-) -> u8
+pub fn nyotmelang_log_read(log: &[u8], len: usize, at: usize, values: &mut [u64; 4]) -> u8
     ensures { said result values.new ≡ said_by (read_in 4096 (file_of log.now len) at) }
 {
     let found = wal::read_record(log, len, at);
     tell_read(found, values)
 }
 
-pub fn nyotmelang_log_append_begin(
-    log: &mut [u8],
-    len: usize,
-    id: u64,
-    values: &mut [u64; 4],
-) -> u8
+pub fn nyotmelang_log_append_begin(log: &mut [u8], len: usize, id: u64, values: &mut [u64; 4]) -> u8
     ensures { left result values.new log.new ≡ left_by (appended (begin id) (file_of log.old len)) }
 {
     let a = wal::append_begin(log, len, TransactionId(id));
     tell(a, values)
 }
 
-pub fn nyotmelang_log_append_abort(
-    log: &mut [u8],
-    len: usize,
-    id: u64,
-    values: &mut [u64; 4],
-) -> u8
+pub fn nyotmelang_log_append_abort(log: &mut [u8], len: usize, id: u64, values: &mut [u64; 4]) -> u8
     ensures { left result values.new log.new ≡ left_by (appended (abort id) (file_of log.old len)) }
 {
     let a = wal::append_abort(log, len, TransactionId(id));
@@ -143,11 +128,7 @@ pub fn nyotmelang_log_append_commit(
     tell(a, values)
 }
 
-pub fn nyotmelang_log_append_checkpoint(
-    log: &mut [u8],
-    len: usize,
-    values: &mut [u64; 4],
-) -> u8
+pub fn nyotmelang_log_append_checkpoint(log: &mut [u8], len: usize, values: &mut [u64; 4]) -> u8
     ensures { left result values.new log.new ≡ left_by (appended checkpoint (file_of log.old len)) }
 {
     let a = wal::append_checkpoint(log, len);
@@ -242,12 +223,7 @@ pub fn nyotmelang_clog_record(
     tell(a, values)
 }
 
-pub fn nyotmelang_clog_compact(
-    clog: &mut [u8],
-    len: usize,
-    below: u64,
-    values: &mut [u64; 4],
-) -> u8
+pub fn nyotmelang_clog_compact(clog: &mut [u8], len: usize, below: u64, values: &mut [u64; 4]) -> u8
     ensures { left result values.new clog.new ≡ left_by (compacted 8 0 (file_of clog.old len) below) }
 {
     let a = clog::compact(clog, len, TransactionId(below));
@@ -294,11 +270,7 @@ pub fn nyotmelang_clog_write_pages(
     tell(a, values)
 }
 
-pub fn nyotmelang_clog_read_pages(
-    pages: &[u8],
-    out: &mut [u8],
-    values: &mut [u64; 4],
-) -> u8
+pub fn nyotmelang_clog_read_pages(pages: &[u8], out: &mut [u8], values: &mut [u64; 4]) -> u8
     ensures { left result values.new out.new ≡ left_by (read_back 8192 pages.now out.old) }
 {
     let a = xacts::read_pages(pages, out);

@@ -1,6 +1,6 @@
 // Lists the log `store.db.wal` in the current folder (a missing file counts as empty) through the log reader, with the lines of the program `records`:
-// the place of each tag, what the record is, its fields, the place after it; then how the log ended. No local of a covered function may hold a reader,
-// so each step asks one of the reader's functions over plain slices. A file of over 24,576 bytes does not fit and gives 1.
+// the place of each tag, what the record is, its fields, the place after it; then how the log ended. Each step asks one of the reader's functions over plain
+// slices. A file of over 24,576 bytes does not fit and gives 1.
 #![tactic(auto)]
 
 ghost use Rattle.std.specs.Prelude.{◌≤◌, length};
