@@ -1,5 +1,4 @@
 -- `ends::ready_commit` meets its contract: refused by 1 or 14, nothing to do, or sealed. Assumes nothing.
--- the arrays have the sizes of their types
 use Rattle.lent.specs.Lent.{lent}
 use Rattle.lent.proofs.Laws.{front-passed}
 use Rattle.acts.proofs.Laws.{made-front}
@@ -18,10 +17,10 @@ pub returns-then-h-ne1 : goal.returns-then-h-ne1
 returns-then-h-ne1 c =
     let a = c.args in
     let p = (let a = c.args in front-passed 4096 (lent a.h a.rows.now a.resident.now a.touched.now) a.log.now a.db.now a.clog.now a.frames.now c.front_no-no.result c.front_no-no.ensures c.if-no-ne-ACCEPTED.false) in
-    commit-none-made 4096 (lent a.h a.rows.now a.resident.now a.touched.now) ((record { rows = search rules; resident = search rules; touched = search rules })) a.log.now a.db.now a.clog.now a.frames.now p.0 p.1 c.bare-then-h-ne1.result c.if-h-ne1.true c.bare-then-h-ne1.ensures
+    commit-none-made 4096 (lent a.h a.rows.now a.resident.now a.touched.now) (record { rows = search rules; resident = search rules; touched = search rules }) a.log.now a.db.now a.clog.now a.frames.now p.0 p.1 c.bare-then-h-ne1.result c.if-h-ne1.true c.bare-then-h-ne1.ensures
 
 pub returns : goal.returns
 returns c =
     let a = c.args in
     let p = (let a = c.args in front-passed 4096 (lent a.h a.rows.now a.resident.now a.touched.now) a.log.now a.db.now a.clog.now a.frames.now c.front_no-no.result c.front_no-no.ensures c.if-no-ne-ACCEPTED.false) in
-    commit-made 4096 (lent a.h a.rows.now a.resident.now a.touched.now) ((record { rows = search rules; resident = search rules; touched = search rules })) a.log.now a.db.now a.clog.now a.frames.now p.0 p.1 c.seal.result c.if-h-ne1.false (omega arith) c.commit_ending-x.result c.commit_ending-x.ensures c.seal.ensures
+    commit-made 4096 (lent a.h a.rows.now a.resident.now a.touched.now) (record { rows = search rules; resident = search rules; touched = search rules }) a.log.now a.db.now a.clog.now a.frames.now p.0 p.1 c.seal.result c.if-h-ne1.false (omega arith) c.commit_ending-x.result c.commit_ending-x.ensures c.seal.ensures

@@ -1,5 +1,4 @@
 -- `frames::seat` meets its contract: each of its three ways out is a law of proofs/Values.antt. Assumes nothing.
--- a frame that is to be had is one of the array's
 use mathlib.Core.Path.{◌≡◌, sym, ◌∙◌}
 use Prim.Native.Nat.{ℕ, ◌≤◌, ◌<◌, min}
 use native.Mathlib.Omega.{arith}

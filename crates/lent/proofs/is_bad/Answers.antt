@@ -10,7 +10,7 @@ returns-then-is_odd c =
     let a = c.args in
     let s = lent a.h a.rows.now a.resident.now a.touched.now in
     rw (
-      bad-lent s ((record { rows = search rules; resident = search rules; touched = search rules })) 4096 a.size,
+      bad-lent s (record { rows = search rules; resident = search rules; touched = search rules }) 4096 a.size,
       ← c.is_odd.ensures,
       c.if-is_odd.true,
     )
@@ -20,7 +20,7 @@ returns-then-lens-lt-HEADER c =
     let a = c.args in
     let s = lent a.h a.rows.now a.resident.now a.touched.now in
     rw (
-      bad-lent s ((record { rows = search rules; resident = search rules; touched = search rules })) 4096 a.size,
+      bad-lent s (record { rows = search rules; resident = search rules; touched = search rules }) 4096 a.size,
       ← c.is_odd.ensures,
       c.if-is_odd.false,
       lt-ltb a.h.lens.log 8 c.if-lens-lt-HEADER.true,
@@ -31,7 +31,7 @@ returns-then-lens-lt-HEADER-2 c =
     let a = c.args in
     let s = lent a.h a.rows.now a.resident.now a.touched.now in
     rw (
-      bad-lent s ((record { rows = search rules; resident = search rules; touched = search rules })) 4096 a.size,
+      bad-lent s (record { rows = search rules; resident = search rules; touched = search rules }) 4096 a.size,
       ← c.is_odd.ensures,
       c.if-is_odd.false,
       le-ltb a.h.lens.log 8 c.if-lens-lt-HEADER.false,
@@ -43,12 +43,12 @@ returns-then-h-gt-ENTRIES c =
     let a = c.args in
     let s = lent a.h a.rows.now a.resident.now a.touched.now in
     rw (
-      bad-lent s ((record { rows = search rules; resident = search rules; touched = search rules })) 4096 a.size,
+      bad-lent s (record { rows = search rules; resident = search rules; touched = search rules }) 4096 a.size,
       ← c.is_odd.ensures,
       c.if-is_odd.false,
       le-ltb a.h.lens.log 8 c.if-lens-lt-HEADER.false,
       le-ltb a.h.lens.clog 8 c.if-lens-lt-HEADER-2.false,
-      rows-over s ((record { rows = search rules; resident = search rules; touched = search rules })) c.if-h-gt-ENTRIES.true,
+      rows-over s (record { rows = search rules; resident = search rules; touched = search rules }) c.if-h-gt-ENTRIES.true,
     )
 
 pub returns-then-is_bad : goal.returns-then-is_bad
@@ -56,12 +56,12 @@ returns-then-is_bad c =
     let a = c.args in
     let s = lent a.h a.rows.now a.resident.now a.touched.now in
     rw (
-      bad-lent s ((record { rows = search rules; resident = search rules; touched = search rules })) 4096 a.size,
+      bad-lent s (record { rows = search rules; resident = search rules; touched = search rules }) 4096 a.size,
       ← c.is_odd.ensures,
       c.if-is_odd.false,
       le-ltb a.h.lens.log 8 c.if-lens-lt-HEADER.false,
       le-ltb a.h.lens.clog 8 c.if-lens-lt-HEADER-2.false,
-      rows-bad s ((record { rows = search rules; resident = search rules; touched = search rules })) c.if-h-gt-ENTRIES.false,
+      rows-bad s (record { rows = search rules; resident = search rules; touched = search rules }) c.if-h-gt-ENTRIES.false,
       ← c.is_bad.ensures,
       c.if-is_bad.true,
     )
@@ -71,12 +71,12 @@ returns-then-not-touched_formed c =
     let a = c.args in
     let s = lent a.h a.rows.now a.resident.now a.touched.now in
     rw (
-      bad-lent s ((record { rows = search rules; resident = search rules; touched = search rules })) 4096 a.size,
+      bad-lent s (record { rows = search rules; resident = search rules; touched = search rules }) 4096 a.size,
       ← c.is_odd.ensures,
       c.if-is_odd.false,
       le-ltb a.h.lens.log 8 c.if-lens-lt-HEADER.false,
       le-ltb a.h.lens.clog 8 c.if-lens-lt-HEADER-2.false,
-      rows-bad s ((record { rows = search rules; resident = search rules; touched = search rules })) c.if-h-gt-ENTRIES.false,
+      rows-bad s (record { rows = search rules; resident = search rules; touched = search rules }) c.if-h-gt-ENTRIES.false,
       ← c.is_bad.ensures,
       c.if-is_bad.false,
       ← c.touched_formed.ensures,
@@ -88,12 +88,12 @@ returns c =
     let a = c.args in
     let s = lent a.h a.rows.now a.resident.now a.touched.now in
     rw (
-      bad-lent s ((record { rows = search rules; resident = search rules; touched = search rules })) 4096 a.size,
+      bad-lent s (record { rows = search rules; resident = search rules; touched = search rules }) 4096 a.size,
       ← c.is_odd.ensures,
       c.if-is_odd.false,
       le-ltb a.h.lens.log 8 c.if-lens-lt-HEADER.false,
       le-ltb a.h.lens.clog 8 c.if-lens-lt-HEADER-2.false,
-      rows-bad s ((record { rows = search rules; resident = search rules; touched = search rules })) c.if-h-gt-ENTRIES.false,
+      rows-bad s (record { rows = search rules; resident = search rules; touched = search rules }) c.if-h-gt-ENTRIES.false,
       ← c.is_bad.ensures,
       c.if-is_bad.false,
       ← c.touched_formed.ensures,

@@ -1,5 +1,4 @@
 -- `quiet::allocate_id` meets its contract: refused by 1 or 14, or the next id is given and goes up by one. Assumes nothing.
--- the arrays have the sizes of their types
 use mathlib.Core.Path.{◌≡◌, sym, ◌∙◌}
 use borrow.Author.Rules.{rules}
 use Rattle.sorted.proofs.Laws.{length-of-mapped}
@@ -19,4 +18,4 @@ pub returns : goal.returns
 returns c =
     let a = c.args in
     let e0 : front_no 4096 (world_of a.s a.log.now a.db.now a.clog.now a.frames.now) ≡ 0 = sym c.front_no-no.ensures ∙ c.if-no-ne-ACCEPTED.false in
-    rw c.next_id-next.ensures (id-out 4096 a.s a.log.now a.db.now a.clog.now a.frames.now e0 ((record { entries = search (rules, length-of-mapped); pages = search rules; touched = search rules })))
+    rw c.next_id-next.ensures (id-out 4096 a.s a.log.now a.db.now a.clog.now a.frames.now e0 (record { entries = search (rules, length-of-mapped); pages = search rules; touched = search rules }))

@@ -1,5 +1,4 @@
 -- `quiet::entry_at` meets its contract: refused by 1 or 14, nothing at or past the count, or the array's entry. Assumes nothing.
--- the arrays have the sizes of their types
 use mathlib.Core.Path.{◌≡◌, sym, ◌∙◌}
 use borrow.Author.Rules.{rules}
 use Rattle.sorted.proofs.Laws.{length-of-mapped}
@@ -18,7 +17,7 @@ pub returns-then-t-i : goal.returns-then-t-i
 returns-then-t-i c =
     let a = c.args in
     let e0 : front_no 4096 (world_of a.s a.log.now a.db.now a.clog.now a.frames.now) ≡ 0 = sym c.front_no-no.ensures ∙ c.if-no-ne-ACCEPTED.false in
-    read_past 4096 a.s a.log.now a.db.now a.clog.now a.frames.now e0 ((record { entries = search (rules, length-of-mapped); pages = search rules; touched = search rules })) a.i c.if-t-i.true
+    read_past 4096 a.s a.log.now a.db.now a.clog.now a.frames.now e0 (record { entries = search (rules, length-of-mapped); pages = search rules; touched = search rules }) a.i c.if-t-i.true
 
 pub offset_bounds-t-i : goal.offset_bounds-t-i
 offset_bounds-t-i c =
@@ -36,4 +35,4 @@ pub returns : goal.returns
 returns c =
     let a = c.args in
     let e0 : front_no 4096 (world_of a.s a.log.now a.db.now a.clog.now a.frames.now) ≡ 0 = sym c.front_no-no.ensures ∙ c.if-no-ne-ACCEPTED.false in
-    read_is 4096 a.s a.log.now a.db.now a.clog.now a.frames.now e0 ((record { entries = search (rules, length-of-mapped); pages = search rules; touched = search rules })) a.i c.if-t-i.false
+    read_is 4096 a.s a.log.now a.db.now a.clog.now a.frames.now e0 (record { entries = search (rules, length-of-mapped); pages = search rules; touched = search rules }) a.i c.if-t-i.false

@@ -23,4 +23,4 @@ pub returns : goal.returns
 returns c =
     let l = c.loop-i in
     let a = c.args in
-    l.invariant.1 ∙ table_done a.t.entries a.rows.now a.t.count l.i ((search (rules, length-of-mapped))) (omega (arith, c.held-n.ensures))
+    l.invariant.1 ∙ table_done a.t.entries a.rows.now a.t.count l.i (search (rules, length-of-mapped)) (omega (arith, c.held-n.ensures))

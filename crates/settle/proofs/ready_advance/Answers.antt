@@ -1,5 +1,4 @@
 -- `settle::ready_advance` meets its contract: refused by 1 or 14, nothing to do, or sealed. Assumes nothing.
--- the arrays have the sizes of their types
 use lib.Dec.{lit≤}
 use mathlib.Core.Path.{sym, ◌∙◌}
 use Rattle.sorted.proofs.Laws.{length-of-mapped}
@@ -18,11 +17,11 @@ returns-then-no-ne-ACCEPTED c =
 pub returns-then-mark-s : goal.returns-then-mark-s
 returns-then-mark-s c =
     let a = c.args in
-    advance-low 4096 a.mark a.s a.log.now a.db.now a.clog.now a.frames.now ((sym c.front_no-no.ensures ∙ c.if-no-ne-ACCEPTED.false)) ((record { entries = search (rules, length-of-mapped); pages = search rules; touched = search rules })) c.nothing-then-mark-s.result c.if-mark-s.true c.nothing-then-mark-s.ensures
+    advance-low 4096 a.mark a.s a.log.now a.db.now a.clog.now a.frames.now (sym c.front_no-no.ensures ∙ c.if-no-ne-ACCEPTED.false) (record { entries = search (rules, length-of-mapped); pages = search rules; touched = search rules }) c.nothing-then-mark-s.result c.if-mark-s.true c.nothing-then-mark-s.ensures
 
 pub returns : goal.returns
 returns c =
     let a = c.args in
-    advance-out 4096 a.mark a.s a.log.now a.db.now a.clog.now a.frames.now ((sym c.front_no-no.ensures ∙ c.if-no-ne-ACCEPTED.false)) ((record { entries = search (rules, length-of-mapped); pages = search rules; touched = search rules })) c.if-mark-s.false (lit≤ tt) c.advance_plan-plan.result c.counters_of-m.result
+    advance-out 4096 a.mark a.s a.log.now a.db.now a.clog.now a.frames.now (sym c.front_no-no.ensures ∙ c.if-no-ne-ACCEPTED.false) (record { entries = search (rules, length-of-mapped); pages = search rules; touched = search rules }) c.if-mark-s.false (lit≤ tt) c.advance_plan-plan.result c.counters_of-m.result
     c.none-back.result c.with_mark-u.result c.seal.result c.advance_plan-plan.ensures c.counters_of-m.ensures c.none-back.ensures
     c.with_mark-u.ensures c.seal.ensures

@@ -1,5 +1,4 @@
 -- `still::install` meets its contract: refused by the first test, by 14 of the list, by 9, or the transaction is put in. Assumes nothing.
--- the arrays have the sizes of their types
 use borrow.Author.Rules.{rules}
 use Rattle.lent.specs.declared.Reply.{Reply}
 use mathlib.Core.Path.{sym, ap, ◌∙◌}
@@ -23,7 +22,7 @@ returns-then-not-list_formed c =
     let p = (let a = c.args in let k = c.front_no-no in front-passed 4096 (lent a.h a.rows.now a.resident.now a.touched.now) a.log.now a.db.now a.clog.now a.frames.now k.result k.ensures c.if-no-ne-ACCEPTED.false) in
     let l = c.list_formed in
     ap (λ (r : Reply). leaving r.number (lent r.head a.rows.now a.resident.now a.touched.now) a.log.now a.db.now a.clog.now a.frames.now) c.reply-then-not-list_formed.ensures
-    ∙ install-14 4096 (lent a.h a.rows.now a.resident.now a.touched.now) a.log.now a.db.now a.clog.now a.frames.now ((record { rows = search rules; resident = search rules; touched = search rules })) p.0 p.1 a.id a.pages.now (sym l.ensures ∙ not-true l.result c.if-not-list_formed.true-raw)
+    ∙ install-14 4096 (lent a.h a.rows.now a.resident.now a.touched.now) a.log.now a.db.now a.clog.now a.frames.now (record { rows = search rules; resident = search rules; touched = search rules }) p.0 p.1 a.id a.pages.now (sym l.ensures ∙ not-true l.result c.if-not-list_formed.true-raw)
 
 pub returns-then-h-eq1 : goal.returns-then-h-eq1
 returns-then-h-eq1 c =
@@ -31,7 +30,7 @@ returns-then-h-eq1 c =
     let p = (let a = c.args in let k = c.front_no-no in front-passed 4096 (lent a.h a.rows.now a.resident.now a.touched.now) a.log.now a.db.now a.clog.now a.frames.now k.result k.ensures c.if-no-ne-ACCEPTED.false) in
     let l = c.list_formed in
     ap (λ (r : Reply). leaving r.number (lent r.head a.rows.now a.resident.now a.touched.now) a.log.now a.db.now a.clog.now a.frames.now) c.reply-then-h-eq1.ensures
-    ∙ install-9 4096 (lent a.h a.rows.now a.resident.now a.touched.now) a.log.now a.db.now a.clog.now a.frames.now ((record { rows = search rules; resident = search rules; touched = search rules })) p.0 p.1 a.id a.pages.now (sym l.ensures ∙ not-false l.result c.if-not-list_formed.false-raw) c.if-h-eq1.true
+    ∙ install-9 4096 (lent a.h a.rows.now a.resident.now a.touched.now) a.log.now a.db.now a.clog.now a.frames.now (record { rows = search rules; resident = search rules; touched = search rules }) p.0 p.1 a.id a.pages.now (sym l.ensures ∙ not-false l.result c.if-not-list_formed.false-raw) c.if-h-eq1.true
 
 pub returns : goal.returns
 returns c =
@@ -40,4 +39,4 @@ returns c =
     let l = c.list_formed in
     let lay = c.lay in
     ap (λ (r : Reply). leaving r.number (lent r.head a.rows.now a.resident.now lay.new.touched) a.log.now a.db.now a.clog.now a.frames.now) c.reply-2.ensures
-    ∙ install-left 4096 (lent a.h a.rows.now a.resident.now a.touched.now) a.log.now a.db.now a.clog.now a.frames.now ((record { rows = search rules; resident = search rules; touched = search rules })) p.0 p.1 a.id a.pages.now (sym l.ensures ∙ not-false l.result c.if-not-list_formed.false-raw) c.if-h-eq1.false lay.new.touched lay.ensures
+    ∙ install-left 4096 (lent a.h a.rows.now a.resident.now a.touched.now) a.log.now a.db.now a.clog.now a.frames.now (record { rows = search rules; resident = search rules; touched = search rules }) p.0 p.1 a.id a.pages.now (sym l.ensures ∙ not-false l.result c.if-not-list_formed.false-raw) c.if-h-eq1.false lay.new.touched lay.ensures

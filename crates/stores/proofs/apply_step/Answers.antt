@@ -55,7 +55,7 @@ returns-in-LogCheckpoint c =
     let k = c.append_checkpoint in
     let g = c.in-LogCheckpoint in
     ap (λ (n : Lens). files_of n k.new.log c.args.db.now c.args.clog.now) c.lengths-in-LogCheckpoint.ensures
-    ∙ log-done 4096 (files_of c.args.lens c.args.log.now c.args.db.now c.args.clog.now) (meaning 4096 c.args.frames.now c.args.step) c.requires (checkpoint) k.result c.length_of-in-LogCheckpoint.result k.new.log (ap (meaning 4096 c.args.frames.now) g.is) refl k.ensures c.length_of-in-LogCheckpoint.ensures
+    ∙ log-done 4096 (files_of c.args.lens c.args.log.now c.args.db.now c.args.clog.now) (meaning 4096 c.args.frames.now c.args.step) c.requires checkpoint k.result c.length_of-in-LogCheckpoint.result k.new.log (ap (meaning 4096 c.args.frames.now) g.is) refl k.ensures c.length_of-in-LogCheckpoint.ensures
 
 pub returns-in-WritePage : goal.returns-in-WritePage
 unfolding meaning

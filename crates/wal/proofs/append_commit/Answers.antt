@@ -1,5 +1,4 @@
 -- `wal::append_commit` meets its contract. Assumes nothing.
--- an append that is accepted has room
 use mathlib.Core.Path.{refl}
 use native.Mathlib.Omega.{arith}
 use Rattle.wal.specs.Records.{encode, commit}

@@ -1,5 +1,4 @@
 -- `wal::append_id` meets its contract. Assumes nothing.
--- an append that is accepted has room
 use mathlib.Core.Path.{refl}
 use mathlib.Core.List.{◌∷◌}
 use native.Mathlib.Omega.{arith}
