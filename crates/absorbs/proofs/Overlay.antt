@@ -11,8 +11,8 @@ use Rattle.fields.specs.Files.{File, content, room, header}
 use Rattle.fields.proofs.Tests.{Equal, equal, other, equality}
 use Rattle.fields.proofs.FileLaws.{header-room, header-len, header-content}
 use Rattle.wal.specs.Records.{Record}
-use Rattle.table.specs.declared.Known.{Known}
-use Rattle.table.specs.declared.Known.TheVariants.{Is, Absent}
+use Rattle.std.specs.Prelude.{Option, Some, None}
+use Rattle.table.specs.declared.Status.{Status}
 use Rattle.table.specs.Entries.{status_of}
 use Rattle.table.proofs.Facts.{or_known, settled_known, same-table}
 use Rattle.clog.specs.Slots.{clog_magic, slot_of, valid_clog, set_slot}
@@ -32,7 +32,7 @@ use Rattle.absorbs.proofs.Opens.{OpensAs, opens_as}
 pub record Absorbed (rs : List Record) (f g : File) : Type 0 where
   pub size : room g ≡ room f
   pub fits : g.len ≤ room g
-  pub words : (k : ℕ) → last_word k rs ≡ Absent → status_of k (clog_table g) ≡ status_of k (clog_table f)
+  pub words : (k : ℕ) → last_word k rs ≡ None → status_of k (clog_table g) ≡ status_of k (clog_table f)
 
 -- ---- the law
 
@@ -41,11 +41,11 @@ module _ (P : ℕ) (f g : Files) (log : records P g.log ≡ records P f.log) (a 
   absorbed-status k =
       full-by-word P g k ∙ rw log (go (last_word k (records P f.log)) refl) ∙ sym (full-by-word P f k)
     where
-      go : (w : Known) → last_word k (records P f.log) ≡ w →
+      go : (w : Option Status) → last_word k (records P f.log) ≡ w →
           or_known (settled_known (last_word k (records P f.log))) (status_of k (clog_table g.clog))
           ≡ or_known (settled_known (last_word k (records P f.log))) (status_of k (clog_table f.clog))
-      go (Is s) e = rw e
-      go Absent e = rw e (a.words k e)
+      go (Some s) e = rw e
+      go None e = rw e (a.words k e)
 
   -- the very same table, so as many entries and the same largest id
   pub absorbed-full : full_table P g ≡ full_table P f
@@ -56,14 +56,14 @@ module _ (P : ℕ) (f g : Files) (log : records P g.log ≡ records P f.log) (a 
 module _ (rs : List Record) where
   -- from slots: the header decides as before, and each slot that the records have no word on loads as before
   absorbed-by : (f g : File) → room g ≡ room f → g.len ≤ room g → valid_clog g ≡ valid_clog f →
-      ((k : ℕ) → last_word k rs ≡ Absent → known_as (slot_of 8 (content g) k) ≡ known_as (slot_of 8 (content f) k)) → Absorbed rs f g
+      ((k : ℕ) → last_word k rs ≡ None → known_as (slot_of 8 (content g) k) ≡ known_as (slot_of 8 (content f) k)) → Absorbed rs f g
   absorbed-by f g r l v s =
       record {
         size = r;
         fits = l;
         words = λ k e.
-            clog-word g k ∙ ap (λ (b : Bool). cond b (known_as (slot_of 8 (content g) k)) Absent) v
-            ∙ ap (λ (w : Known). cond (valid_clog f) w Absent) (s k e) ∙ sym (clog-word f k);
+            clog-word g k ∙ ap (λ (b : Bool). cond b (known_as (slot_of 8 (content g) k)) None) v
+            ∙ ap (λ (w : Option Status). cond (valid_clog f) w None) (s k e) ∙ sym (clog-word f k);
       }
 
   module _ (f : File) (k : ℕ) (fits : f.len ≤ room f) (head : 8 ≤ f.len) (has : 8 + k / 4 < room f) where
@@ -74,14 +74,14 @@ module _ (rs : List Record) where
         (grown-valid f (8 + k / 4 + 1) fits (omega arith) head) (λ t z. ap known_as (grown-slot f (8 + k / 4 + 1) fits (omega arith) t))
 
     -- and whole, of an id that the records have a word on, or where it loads as before
-    pub absorbed-slot : (c : ℕ) → c < 4 → (last_word k rs ≡ Absent → known_as c ≡ known_as (slot_of 8 (content f) k)) → Absorbed rs f (set_slot 8 k c f)
+    pub absorbed-slot : (c : ℕ) → c < 4 → (last_word k rs ≡ None → known_as c ≡ known_as (slot_of 8 (content f) k)) → Absorbed rs f (set_slot 8 k c f)
     absorbed-slot c small w =
         absorbed-by f (set_slot 8 k c f) (record-room 8 k c f) (record-fit 8 k c f fits has) (valid_same f (set_slot 8 k c f) (record-header 8 k c f fits has head))
         (λ t e. go t (equality k t) e)
       where
-        go : (t : ℕ) → Equal k t → last_word t rs ≡ Absent → known_as (slot_of 8 (content (set_slot 8 k c f)) t) ≡ known_as (slot_of 8 (content f) t)
+        go : (t : ℕ) → Equal k t → last_word t rs ≡ None → known_as (slot_of 8 (content (set_slot 8 k c f)) t) ≡ known_as (slot_of 8 (content f) t)
         go t (equal p) e =
-            subst (λ (j : ℕ). last_word j rs ≡ Absent → known_as (slot_of 8 (content (set_slot 8 k c f)) j) ≡ known_as (slot_of 8 (content f) j)) p
+            subst (λ (j : ℕ). last_word j rs ≡ None → known_as (slot_of 8 (content (set_slot 8 k c f)) j) ≡ known_as (slot_of 8 (content f) j)) p
             (λ a. ap known_as (record_same 8 k c f fits has small) ∙ w a) e
         go t (other n) e = ap known_as (record-other 8 k c f fits has small t n)
 
@@ -104,7 +104,7 @@ module _ (rs : List Record) where
           let m : length clog_magic ≡ 8 = unfold clog_magic in refl in
           omega (arith, valid-long (header (take n clog_magic) f) x, header-len (take n clog_magic) f, length-take n clog_magic, m)
 
-      go : (k : ℕ) (x : Bool) → valid_clog (header (take n clog_magic) f) ≡ x → status_of k (clog_table (header (take n clog_magic) f)) ≡ Absent
+      go : (k : ℕ) (x : Bool) → valid_clog (header (take n clog_magic) f) ≡ x → status_of k (clog_table (header (take n clog_magic) f)) ≡ None
       go k false x = clog-word (header (take n clog_magic) f) k ∙ rw x
       go k true x =
           let m : length clog_magic ≡ 8 = unfold clog_magic in refl in

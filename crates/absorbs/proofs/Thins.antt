@@ -8,8 +8,8 @@ use native.Mathlib.Omega.{arith}
 use borrow.Author.Tests.{ne_eqb}
 use Rattle.fields.proofs.Tests.{Equal, equal, other, equality}
 use Rattle.fields.specs.Files.{content, room}
-use Rattle.table.specs.declared.Known.{Known}
-use Rattle.table.specs.declared.Known.TheVariants.{Is, Absent}
+use Rattle.std.specs.Prelude.{Option, Some, None}
+use Rattle.table.specs.declared.Status.{Status}
 use Rattle.table.specs.Entries.{status_of}
 use Rattle.table.proofs.Facts.{or_known, settled_known, absent-not, within}
 use Rattle.clog.specs.Slots.{slot_of, valid_clog, loaded_status}
@@ -25,12 +25,12 @@ use Rattle.torn.proofs.Laws.{torn-means, torn-passed}
 use Rattle.absorbs.proofs.Opens.{fits-passed}
 
 -- a slot that loads as absent is 0
-slot-none : (c : ℕ) → known_as c ≡ Absent → c ≡ 0
+slot-none : (c : ℕ) → known_as c ≡ None → c ≡ 0
 slot-none c h = go (equality c 0)
   where
     go : Equal c 0 → c ≡ 0
     go (equal p) = p
-    go (other n) = let a : Is (loaded_status c) ≡ Absent = rw (ne_eqb c 0 n) at h in absurd (absent-not (Is (loaded_status c)) (loaded_status c) a refl)
+    go (other n) = let a : Some (loaded_status c) ≡ None = rw (ne_eqb c 0 n) at h in absurd (absent-not (Some (loaded_status c)) (loaded_status c) a refl)
 
 module _ (P : ℕ) (f : Files) (frames : List ℕ) (n w : ℕ) (head : 8 ≤ f.clog.len) (ok : torn_no P f frames ≡ 0) where
   abbrev pub compacting : Files
@@ -44,16 +44,16 @@ module _ (P : ℕ) (f : Files) (frames : List ℕ) (n w : ℕ) (head : 8 ≤ f.c
 
   clog-high : (k : ℕ) → w ≤ k → status_of k (clog_table compacting.clog) ≡ status_of k (clog_table f.clog)
   clog-high k l =
-      clog-word compacting.clog k ∙ ap (λ (b : Bool). cond b (known_as (slot_of 8 (content compacting.clog) k)) Absent) valid
-      ∙ ap (λ (c : ℕ). cond (valid_clog f.clog) (known_as c) Absent) (cleared-to-high n 8 w f.clog fits head k l) ∙ sym (clog-word f.clog k)
+      clog-word compacting.clog k ∙ ap (λ (b : Bool). cond b (known_as (slot_of 8 (content compacting.clog) k)) None) valid
+      ∙ ap (λ (c : ℕ). cond (valid_clog f.clog) (known_as c) None) (cleared-to-high n 8 w f.clog fits head k l) ∙ sym (clog-word f.clog k)
 
-  clog-absent : (k : ℕ) → status_of k (clog_table f.clog) ≡ Absent → status_of k (clog_table compacting.clog) ≡ Absent
+  clog-absent : (k : ℕ) → status_of k (clog_table f.clog) ≡ None → status_of k (clog_table compacting.clog) ≡ None
   clog-absent k e = clog-word compacting.clog k ∙ go (valid_clog compacting.clog) refl
     where
-      go : (x : Bool) → valid_clog compacting.clog ≡ x → cond (valid_clog compacting.clog) (known_as (slot_of 8 (content compacting.clog) k)) Absent ≡ Absent
+      go : (x : Bool) → valid_clog compacting.clog ≡ x → cond (valid_clog compacting.clog) (known_as (slot_of 8 (content compacting.clog) k)) None ≡ None
       go false v = rw v
       go true v =
-          let a : known_as (slot_of 8 (content f.clog) k) ≡ Absent = sym (clog-word f.clog k ∙ rw (sym valid ∙ v)) ∙ e in
+          let a : known_as (slot_of 8 (content f.clog) k) ≡ None = sym (clog-word f.clog k ∙ rw (sym valid ∙ v)) ∙ e in
           let z : slot_of 8 (content f.clog) k ≡ 0 = slot-none (slot_of 8 (content f.clog) k) a in
           let y : slot_of 8 (content compacting.clog) k ≡ 0 = ⊎_elim (λ q. q ∙ z) (λ q. q) (cleared-to-low n 8 w f.clog fits head k) in
           rw (v, y)
@@ -61,13 +61,13 @@ module _ (P : ℕ) (f : Files) (frames : List ℕ) (n w : ℕ) (head : 8 ≤ f.c
   pub thinned-high : (k : ℕ) → w ≤ k → status_of k (full_table P compacting) ≡ status_of k (full_table P f)
   thinned-high k l = full-by-word P compacting k ∙ rw (clog-high k l) (sym (full-by-word P f k))
 
-  pub thinned-absent : (k : ℕ) → status_of k (full_table P f) ≡ Absent → status_of k (full_table P compacting) ≡ Absent
+  pub thinned-absent : (k : ℕ) → status_of k (full_table P f) ≡ None → status_of k (full_table P compacting) ≡ None
   thinned-absent k e = full-by-word P compacting k ∙ go (last_word k (records P f.log)) refl
     where
-      go : (x : Known) → last_word k (records P f.log) ≡ x →
-          or_known (settled_known (last_word k (records P f.log))) (status_of k (clog_table compacting.clog)) ≡ Absent
-      go (Is s) q = let z : ◌≡◌ {A = ℕ} 0 1 = cc (rw q at (full-by-word P f k)) in absurd (omega arith)
-      go Absent q = rw q (clog-absent k (sym (rw q at (full-by-word P f k)) ∙ e))
+      go : (x : Option Status) → last_word k (records P f.log) ≡ x →
+          or_known (settled_known (last_word k (records P f.log))) (status_of k (clog_table compacting.clog)) ≡ None
+      go (Some s) q = let z : ◌≡◌ {A = ℕ} 0 1 = cc (rw q at (full-by-word P f k)) in absurd (omega arith)
+      go None q = rw q (clog-absent k (sym (rw q at (full-by-word P f k)) ∙ e))
 
   -- it is accepted, and the database is the same
   pub thinned-accepted : tail_no (end_of P f.log) ≡ 0 → torn_no P compacting frames ≡ 0

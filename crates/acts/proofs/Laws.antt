@@ -7,6 +7,11 @@ use mathlib.Core.List.{List, [], ◌∷◌, ◌++◌, map}
 use mathlib.Core.Bool.{Bool, true, false, cond}
 use lib.ListN.{length, take}
 use lib.Dec.{ltb, leb, eqb}
+use Rattle.std.specs.Prelude.{Option, Result, Err}
+use Rattle.std.specs.Result.{IsErr, IsErrAnd}
+use Rattle.fields.specs.declared.refusal.Refusal.{Refusal}
+use Rattle.fields.specs.Refusals.{number_of}
+use Rattle.fields.proofs.AnswerLaws.{handed-on}
 use Rattle.fields.proofs.Tests.{neither}
 use Rattle.sorted.specs.Sorted.{laid_on, insert_by}
 use Rattle.sorted.proofs.Laws.{laid-back, laid-own}
@@ -18,34 +23,34 @@ use Rattle.rows.specs.Rows.{Rowed, rowed_as, row_id, odd_row, any_odd, row_of, e
 use Rattle.rows.proofs.Laws.{map_first, sound-all}
 use Rattle.frames.specs.declared.Frames.{Frames}
 use Rattle.frames.specs.declared.Touched.{Touched}
-use Rattle.frames.specs.declared.Seated.{Seated}
-use Rattle.frames.specs.declared.Marked.{Marked}
-use Rattle.frames.specs.Pages.{is_in, frame_count, resident_of, touched_of, touch, laid_frames, laid_touched, seated_as, seated, marked_as, marked}
+use Rattle.frames.specs.Pages.{is_in, frame_count, resident_of, touched_of, touch, laid_frames, laid_touched, Seated, seated_as, seated, Marked, marked_as, marked}
+use Rattle.world.specs.declared.Lens.{Lens}
 use Rattle.world.specs.World.{World, files_of}
 use Rattle.world.specs.Steps as world
 use Rattle.world.specs.Steps.{tell_all}
 use Rattle.world.specs.Calls.{Call}
 use Rattle.world.specs.Refusals.{front_no, bad_buffers, refuses}
 use Rattle.world.specs.Run.{done, decided}
+use Rattle.stores.specs.declared.Telling.{Telling}
+use Rattle.stores.specs.Plans.{steps_of, meant}
+use Rattle.stores.specs.Room.{cut, cut_of}
 use Rattle.stores.specs.Told.{first_told, told_at, told_in}
 use Rattle.stores.proofs.RoomLaws.{length-meant}
 use Rattle.stores.proofs.TellLaws.{told-any}
+use Rattle.plans.specs.Planned.{plan_of}
 use Rattle.form.specs.declared.Store.{Store}
 use Rattle.form.specs.Store.{world_of, laid_store, Outcome, outcome, called, called_on}
 use Rattle.lent.specs.declared.Head.{Head}
-use Rattle.lent.specs.Lent.{Lent, slot_in, store_of, odd_head, odd, held_of, own_of, laid_lent, leaving, left_of, odd_no, unless_odd, called_lent}
+use Rattle.lent.specs.Lent.{Lent, lent, slot_in, store_of, odd_head, odd, held_of, own_of, laid_lent, replied, Left, leaving, left_of, odd_no, unless_odd, called_lent}
 use Rattle.lent.proofs.Laws.{Fit, head-back, rows_same, few-entries, few-resident}
-use Rattle.ready.specs.declared.Ready.{Ready}
-use Rattle.ready.specs.declared.Counted.{Counted}
-use Rattle.ready.specs.declared.Told.{Told}
-use Rattle.ready.specs.Ready.{Prepared, prepared, readied, idle, with_lens, carried_out, cut_at, called_to, counted_for, ToldCall, told_by, told_for, told_of}
+use Rattle.ready.specs.Ready.{Prepared, prepared, Ready, readied, idle, with_lens, carried_out, cut_at, Counted, counted, called_to, counted_for, ToldCall, told_by, told_for, told_of}
 use Rattle.ready.specs.Inside.{remembered, ready_for}
 use Rattle.ready.proofs.Prepared.{none-carried, idle-is, ready-front, ready-called, ready-cut, ready-count}
 use Rattle.ready.proofs.ToldLaws.{told-done}
 use Rattle.acts.specs.declared.Change.{Change}
 use Rattle.acts.specs.declared.Change.TheVariants.{Same, Set, Touch}
-use Rattle.acts.specs.declared.Made.{Made}
-use Rattle.acts.specs.Made.{rows_after, touched_after, resident_after, counted_head, lens_head, after_in, ready_in, bare_made, Readied, readied_as, made_in, lent_with, left_by, cut_made, counted_made, told_made}
+use Rattle.acts.specs.declared.Made as code
+use Rattle.acts.specs.Made.{Made, rows_after, touched_after, resident_after, counted_head, lens_head, after_in, ready_in, bare_made, made_of, Readied, readied_as, made_in, lent_with, left_by, cut_made, counted_made, told_made}
 use Rattle.acts.specs.Partly.{cut_lent, counted_lent, told_lent}
 use Rattle.acts.specs.Inside.{ready_lent}
 
@@ -56,6 +61,17 @@ none_out : (P : ℕ) (u : Store) (n : ℕ) (log db clog frames : List ℕ) →
     carried_out P (prepared n [] u frames) log db clog ≡ outcome (record { number = n; store = u }) log db clog frames
 unfolding carried_out with_lens
 none_out P u n log db clog frames = rw (none-carried P 0 (files_of u.lens log db clog))
+
+-- of no stores nothing is told
+none_told : (k : ℕ) → told_at k [] ≡ []
+unfolding told_at first_told
+none_told zero = refl
+none_told (suc zero) = refl
+none_told (suc (suc k)) = refl
+
+same-either : (b : Bool) → ◌≡◌ {A = List ℕ} (cond b [] []) []
+same-either true = refl
+same-either false = refl
 
 -- where there is no store the number is not 0
 some-no : {A : Type 0} (b : Bool) (x y : A) → decided (cond b 1 14) x y ≡ y
@@ -87,11 +103,12 @@ module _ (P : ℕ) (c : Call) (s : Lent) (log db clog frames : List ℕ) where
   unfolding ready_lent
   is-fine e = rw e
 
-  left-odd : left_by P odd_ready log db clog ≡ leaving (odd_no P s log db clog frames) s log db clog frames
+  -- what is made ready with no stores and no change leaves everything
+  left-none : (n : ℕ) → left_by P (readied_as (prepared n [] (store_of s) frames) s) log db clog ≡ leaving n s log db clog frames
   unfolding left_by lens_head store_of
-  left-odd =
+  left-none n =
       ap (λ (o : Outcome). leaving o.number (lent_with o.store.lens s) o.log o.db o.clog o.frames)
-      (none_out P (store_of s) (odd_no P s log db clog frames) log db clog frames)
+      (none_out P (store_of s) n log db clog frames)
 
   same-laid : lent_with (laid_store u (done P c here)).lens (laid_lent s (remembered P c u here)) ≡ laid_lent s (laid_store u (done P c here))
   unfolding laid_lent laid_store done lens_head
@@ -123,7 +140,7 @@ module _ (P : ℕ) (c : Call) (s : Lent) (log db clog frames : List ℕ) where
       go : (b : Bool) → odd s ≡ b →
           left_by P (ready_lent P c s log db clog frames) log db clog ≡
           cond b (leaving (odd_no P s log db clog frames) s log db clog frames) (left_of s (called P c (store_of s) log db clog frames))
-      go true e = ap (λ (x : Readied). left_by P x log db clog) (is_odd e) ∙ left-odd
+      go true e = ap (λ (x : Readied). left_by P x log db clog) (is_odd e) ∙ left-none (odd_no P s log db clog frames)
       go false e = ap (λ (x : Readied). left_by P x log db clog) (is-fine e) ∙ left-fine
 
   -- ---- cut, counted, told
@@ -180,17 +197,6 @@ module _ (P : ℕ) (c : Call) (s : Lent) (log db clog frames : List ℕ) where
     unfolding told_made told_of ready_in store_of after_in counted_head
     told-as k = refl
 
-    -- of no stores nothing is told
-    none_told : (k : ℕ) → told_at k [] ≡ []
-    unfolding told_at first_told
-    none_told zero = refl
-    none_told (suc zero) = refl
-    none_told (suc (suc k)) = refl
-
-    same-either : (b : Bool) → ◌≡◌ {A = List ℕ} (cond b [] []) []
-    same-either true = refl
-    same-either false = refl
-
     abbrev values_in : ℕ → Prepared → List ℕ
     values_in k p = cond (ltb 16777216 p.store.lens.log) [] (told_at k (tell_all P p.steps (files_of p.store.lens log db clog)))
 
@@ -208,7 +214,7 @@ module _ (P : ℕ) (c : Call) (s : Lent) (log db clog frames : List ℕ) where
     abbrev call_of : ℕ → Prepared → ToldCall
     call_of k p = record { number = p.number; values = values_in k p }
 
-    pub told-called : 36 ≤ P → (k : ℕ) (t : Told) → told_by t ≡ told_made P k m → told_by t ≡ told_lent P k c s log db clog frames
+    pub told-called : 36 ≤ P → (k : ℕ) (t : Result (Option Telling) Refusal) → told_by t ≡ told_made P k m → told_by t ≡ told_lent P k c s log db clog frames
     unfolding told_lent
     told-called big k t q = go (odd s) refl
       where
@@ -220,11 +226,48 @@ module _ (P : ℕ) (c : Call) (s : Lent) (log db clog frames : List ℕ) where
 
 -- ---- the ways out of making ready
 
+-- what `?` hands on
+pub handed-made : (h : Head) (a : Result code.Made Refusal) (r : Refusal) → IsErr a × IsErrAnd a (λ e. e ≡ r) → made_of h a ≡ bare_made (number_of r) Same h
+handed-made h a r e = ap (made_of h) (handed-on a r e)
+
 module _ (P : ℕ) (c : Call) (s : Lent) (log db clog frames : List ℕ) where
   -- no stores and no change
   bare-is : (n : ℕ) → made_in P (bare_made n Same s.head) s.rows s.resident s.touched log db clog frames ≡ readied_as (prepared n [] (store_of s) frames) s
   unfolding made_in ready_in after_in rows_after touched_after resident_after counted_head bare_made idle
   bare-is n = ap (λ (p : Prepared). readied_as p s) (idle-is P log db clog frames n (store_of s))
+
+  -- ---- what comes of a call that was made ready, and of one that was refused, is the call
+
+  pub accepted-left : (m : Made) → made_in P m s.rows s.resident s.touched log db clog frames ≡ ready_lent P c s log db clog frames → (x : Left) →
+      x ≡ left_by P (made_in P m s.rows s.resident s.touched log db clog frames) log db clog → x ≡ called_lent P c s log db clog frames
+  accepted-left m is x e = e ∙ ap (λ (y : Readied). left_by P y log db clog) is ∙ left-called P c s log db clog frames
+
+  module _ (r : Refusal) (is : made_in P (bare_made (number_of r) Same s.head) s.rows s.resident s.touched log db clog frames ≡ ready_lent P c s log db clog frames) where
+    abbrev no : Made
+    no = bare_made (number_of r) Same s.head
+
+    pub refused-left : (a : Result Head Refusal) → IsErr a × IsErrAnd a (λ e. e ≡ r) →
+        leaving (replied s.head a).number (lent (replied s.head a).head s.rows s.resident s.touched) log db clog frames ≡ called_lent P c s log db clog frames
+    refused-left a e =
+        ap (λ (x : Result Head Refusal). leaving (replied s.head x).number (lent (replied s.head x).head s.rows s.resident s.touched) log db clog frames) (handed-on a r e)
+        ∙ sym (ap (λ (x : Readied). left_by P x log db clog) (bare-is (number_of r)) ∙ left-none P c s log db clog frames (number_of r))
+        ∙ ap (λ (x : Readied). left_by P x log db clog) is ∙ left-called P c s log db clog frames
+
+    pub refused-cut : (k : ℕ) (a : Result Lens Refusal) → IsErr a × IsErrAnd a (λ e. e ≡ r) → cut_of (cut s.head.lens a) log db clog ≡ cut_lent P k c s log db clog frames
+    unfolding cut_made bare_made plan_of meant steps_of
+    refused-cut k a e =
+        let n : cut_made P k no log db clog frames ≡ cut_of (cut s.head.lens (Err r)) log db clog = rw (none-carried P k (files_of s.head.lens log db clog)) in
+        ap (λ (x : Result Lens Refusal). cut_of (cut s.head.lens x) log db clog) (handed-on a r e) ∙ sym n ∙ cut-called P c s log db clog frames no is k
+
+    pub refused-count : (a : Result ℕ Refusal) → IsErr a × IsErrAnd a (λ e. e ≡ r) → counted a ≡ counted_lent P c s log db clog frames
+    unfolding counted_made bare_made plan_of steps_of
+    refused-count a e = ap counted (handed-on a r e) ∙ count-called P c s log db clog frames no is
+
+    pub refused-told : 36 ≤ P → (k : ℕ) (a : Result (Option Telling) Refusal) → IsErr a × IsErrAnd a (λ e. e ≡ r) → told_by a ≡ told_lent P k c s log db clog frames
+    unfolding told_by told_made bare_made told_in plan_of meant steps_of tell_all
+    refused-told big k a e =
+        let n : told_by (Err r) ≡ told_made P k no = rw (none_told k, same-either (ltb 16777216 s.head.lens.log)) in
+        told-called P c s log db clog frames no is big k a (ap told_by (handed-on a r e) ∙ n)
 
   module _ (m : Made) where
     abbrev made : Readied

@@ -1,83 +1,69 @@
--- Laws of the code's records: the kinds of calls made ready, the stores and the frames, the arrays, and both together. Assumes nothing.
-use Prim.Native.Nat.{ℕ, ◌-◌, ◌*◌}
+-- Laws of the code's records: the stores and the frames, the arrays, and both together. Assumes nothing.
+use Prim.Native.Nat.{ℕ, ◌-◌}
 use native.Mathlib.Omega.{arith}
 use mathlib.Core.Path.{◌≡◌, refl, sym, ap, ◌∙◌}
 use mathlib.Core.List.{List, []}
-use mathlib.Core.Bool.{false, cond}
+use mathlib.Core.Bool.{cond}
 use lib.ListN.{length, drop}
-use lib.Seq.{sets}
-use Rattle.fields.specs.Answers.{no_id, no_time}
+use Rattle.std.specs.Prelude.{Option, Some, None, Result, Ok, Err}
+use Rattle.std.specs.Result.{result_unwrap_or}
+use Rattle.fields.specs.declared.refusal.Refusal.{Refusal}
+use Rattle.fields.specs.Refusals.{number_in}
 use Rattle.fields.specs.Files.{file_of}
-use Rattle.rows.specs.Rows.{Rowed, rowed_as}
-use Rattle.frames.specs.declared.Seated.{Seated}
-use Rattle.frames.specs.declared.Marked.{Marked}
+use Rattle.rows.specs.Rows.{Rowed, rowed_as, rowed_in}
+use Rattle.frames.specs.Pages.{Seated, Marked}
 use Rattle.frames.specs.Copies.{with_frame}
 use Rattle.seats.specs.Seats.{seated_in, marked_in}
 use Rattle.world.specs.declared.Lens.{Lens}
 use Rattle.world.specs.World.{Files, files_of, lens_of}
-use Rattle.picks.specs.declared.Picked.{Picked}
-use Rattle.picks.specs.Picks.{picked_of}
-use Rattle.stores.specs.declared.Plan.{Plan}
-use Rattle.stores.specs.declared.Cut.{Cut}
-use Rattle.stores.specs.declared.Kind.TheVariants.{Nothing}
+use Rattle.meta.specs.declared.Counters.{Counters}
 use Rattle.stores.specs.Plans.{meant}
-use Rattle.stores.specs.Room.{cut_of, carried}
-use Rattle.stores.specs.declared.Telling.{Telling}
-use Rattle.stores.specs.Told.{telling_told, told_in}
-use Rattle.plans.specs.Planned.{plan_of, no_counters}
+use Rattle.stores.specs.Room.{Carried, cut, cut_of, carried}
 use Rattle.lent.specs.declared.Head.{Head}
 use Rattle.lent.specs.Lent.{Lent, lent, store_of, leaving}
-use Rattle.ready.specs.declared.Ready.{Ready}
-use Rattle.ready.specs.Ready.{readied, meta_of, refill, framed, files_to, with_lens, carried_out, told_by}
-use Rattle.ready.proofs.Prepared.{cut-files, all-is}
-use Rattle.acts.specs.declared.Change.{Change}
-use Rattle.acts.specs.declared.Made.{Made}
-use Rattle.acts.specs.Made.{rows_after, touched_after, resident_after, counted_head, lens_head, after_in, ready_in, bare_made, plain_made, made_in, lent_with, left_by, cut_made, told_made}
+use Rattle.ready.specs.Ready.{has_slot, slot_in, Ready, readied, meta_of, refill, framed, with_lens, carried_out}
+use Rattle.ready.specs.Inside.{laid_meta}
+use Rattle.ready.proofs.Prepared.{cut-files, cut-lens, all-is}
+use Rattle.acts.specs.declared.Made as code
+use Rattle.acts.specs.Made.{Made, accepted, rows_after, touched_after, resident_after, counted_head, lens_head, after_in, ready_in, made_in, lent_with, left_by, cut_made}
 use Rattle.acts.specs.Inside.{FilesLeft, files_left, files_made}
 
--- ---- the kinds
+-- ---- an entry that is set where n rows were held: the number and the count of its answer
 
-pub bare-out : (n : ℕ) (c : Change) (h : Head) (p : Plan) (x : Picked) → p ≡ plan_of Nothing no_id no_time [] no_counters → x ≡ picked_of 64 [] →
-    ◌≡◌ {A = Made} (record { number = n; plan = p; back = x; meta = false; slot = 0; change = c; head = h }) (bare_made n c h)
-unfolding bare_made
-bare-out n c h p x e f = rw (e, f)
-
-pub plain_out : (plan : Plan) (x : Picked) (c : Change) (h : Head) → x ≡ picked_of 64 [] →
-    ◌≡◌ {A = Made} (record { number = 0; plan = plan; back = x; meta = false; slot = 0; change = c; head = h }) (plain_made plan c h)
-unfolding plain_made
-plain_out plan x c h e = rw e
-
-pub told-out : (P k : ℕ) (m : Made) (t : Telling) → telling_told t ≡ told_in P m.plan k m.head.lens →
-    told_by (record { number = m.number; telling = t }) ≡ told_made P k m
-unfolding told_by told_made
-told-out P k m t e = ap (λ (vs : List ℕ). record { number = m.number; values = vs }) e
+pub set-parts : (n : ℕ) (r : Result ℕ Refusal) (rows : List (List ℕ)) (x : Rowed) → rowed_in n r rows ≡ x → rowed_as (number_in r) (result_unwrap_or r n) rows ≡ x
+set-parts n (Ok k) rows x e = e
+set-parts n (Err q) rows x e = e
 
 -- ---- the stores and the frames
 
-module _ (P : ℕ) (m : Made) (log db clog frames : List ℕ) (cut : Cut) (log' db' clog' : List ℕ) where
+laid-is : (P : ℕ) (x : Option ℕ) (c : Counters) (frames : List ℕ) →
+    laid_meta P x c frames ≡ cond (has_slot x) (with_frame P frames (slot_in x) (meta_of P c)) frames
+laid-is P (Some slot) c frames = refl
+laid-is P None c frames = refl
+
+module _ (P : ℕ) (m : code.Made) (log db clog frames log' db' clog' : List ℕ) where
   -- some call made ready with these stores
   abbrev r : Ready
-  r = ready_in P (length frames) m [] [] []
+  r = ready_in P (length frames) (accepted m) [] [] []
 
-  cut-are : (k : ℕ) → cut_of cut log' db' clog' ≡ carried P (drop 0 (meant P frames m.plan)) (k - 0) (files_of m.head.lens log db clog) →
-      files_of cut.lens log' db' clog' ≡ files_to P k (meant P frames m.plan) m.head.lens log db clog
-  unfolding readied ready_in store_of after_in counted_head
-  cut-are k e = cut-files P r frames log db clog cut log' db' clog' k e
+  pub cut_out : (k : ℕ) (a : Result Lens Refusal) →
+      cut_of (cut m.head.lens a) log' db' clog' ≡ carried P (drop 0 (meant P frames m.plan)) (k - 0) (files_of m.head.lens log db clog) →
+      cut_of (cut m.head.lens (Ok (result_unwrap_or a m.head.lens))) log' db' clog' ≡ cut_made P k (accepted m) log db clog frames
+  unfolding cut_made readied ready_in store_of after_in counted_head
+  cut_out k a e =
+      ap (λ (x : Lens). cut_of (cut m.head.lens (Ok x)) log' db' clog') (sym (cut-lens m.head.lens a))
+      ∙ ap (λ (x : Files). record { number = 0; files = x }) (cut-files P r frames log db clog (cut m.head.lens a) log' db' clog' k e)
 
-  pub files-out : (a b : List ℕ) → cut_of cut log' db' clog' ≡ carried P (drop 0 (meant P frames m.plan)) (133 - 0) (files_of m.head.lens log db clog) →
-      a ≡ refill P (file_of db' cut.lens.db) m.back frames → b ≡ cond m.meta (sets a (m.slot * P) (meta_of P m.plan.meta)) a →
-      files_left cut.lens log' db' clog' b ≡ files_made P m log db clog frames
-  unfolding files_made readied ready_in store_of after_in counted_head
-  files-out a b e f g =
-      let all = cut-are 133 e ∙ all-is P r frames 133 log db clog (omega arith) in
-      let h : b ≡ cond m.meta (with_frame P (refill P (file_of db' cut.lens.db) m.back frames) m.slot (meta_of P m.plan.meta)) (refill P (file_of db' cut.lens.db) m.back frames) = g ∙ rw f in
-      ap (λ (x : List ℕ). files_left cut.lens log' db' clog' x) h
-      ∙ ap (λ (x : Files). record { files = x; frames = cond m.meta (with_frame P (refill P x.db m.back frames) m.slot (meta_of P m.plan.meta)) (refill P x.db m.back frames) }) all
-
-  pub cut_out : (k : ℕ) → cut_of cut log' db' clog' ≡ carried P (drop 0 (meant P frames m.plan)) (k - 0) (files_of m.head.lens log db clog) →
-      cut_of (record { number = m.number; lens = cut.lens }) log' db' clog' ≡ cut_made P k m log db clog frames
-  unfolding cut_made
-  cut_out k e = ap (λ (x : Files). record { number = m.number; files = x }) (cut-are k e)
+  pub files-out : (end : Lens) (a b : List ℕ) → cut_of (cut m.head.lens (Ok end)) log' db' clog' ≡ cut_made P 133 (accepted m) log db clog frames →
+      a ≡ refill P (file_of db' end.db) m.back frames → b ≡ laid_meta P m.meta m.plan.meta a →
+      files_left end log' db' clog' b ≡ files_made P (accepted m) log db clog frames
+  unfolding files_made cut_made readied ready_in store_of after_in counted_head
+  files-out end a b e f g =
+      let all = ap (λ (x : Carried). x.files) e ∙ all-is P r frames 133 log db clog (omega arith) in
+      let h : b ≡ cond (has_slot m.meta) (with_frame P (refill P (file_of db' end.db) m.back frames) (slot_in m.meta) (meta_of P m.plan.meta)) (refill P (file_of db' end.db) m.back frames) =
+      g ∙ ap (laid_meta P m.meta m.plan.meta) f ∙ laid-is P m.meta m.plan.meta (refill P (file_of db' end.db) m.back frames) in
+      ap (λ (x : List ℕ). files_left end log' db' clog' x) h
+      ∙ ap (λ (x : Files). record { files = x; frames = cond (has_slot m.meta) (with_frame P (refill P x.db m.back frames) (slot_in m.meta) (meta_of P m.plan.meta)) (refill P x.db m.back frames) }) all
 
 -- ---- the arrays
 

@@ -1,11 +1,11 @@
 -- A call made ready as a small value: its number, its stores, what it changes in the arrays, and the head after it but for the lengths of the files and for the counts
 -- that the arrays give. Together with the arrays it is read as a call made ready on a store (crate ready). P is the page size. Assumes nothing.
-use Rattle.std.specs.Prelude.{ℕ, List, [], Bool, true, false, cond, length}
+use Rattle.std.specs.Prelude.{ℕ, List, [], Bool, true, false, cond, length, Result, Ok, Err}
+use Rattle.fields.specs.declared.refusal.Refusal.{Refusal}
+use Rattle.fields.specs.Refusals.{number_of}
 use Rattle.fields.specs.Answers.{no_id, no_time}
 use Rattle.rows.specs.Rows.{Rowed, rowed_as, set_row}
-use Rattle.frames.specs.declared.Seated.{Seated}
-use Rattle.frames.specs.declared.Marked.{Marked}
-use Rattle.frames.specs.Pages.{seated_as, seated, marked_as, marked}
+use Rattle.frames.specs.Pages.{Seated, seated_as, seated, Marked, marked_as, marked}
 use Rattle.seats.specs.Seats.{frames_in, touched_in}
 use Rattle.world.specs.declared.Lens.{Lens}
 use Rattle.picks.specs.declared.Picked.{Picked}
@@ -18,12 +18,25 @@ use Rattle.stores.specs.Told.{told_in}
 use Rattle.plans.specs.Planned.{plan_of, no_counters}
 use Rattle.lent.specs.declared.Head.{Head}
 use Rattle.lent.specs.Lent.{Lent, lent, store_of, Left, leaving}
-use Rattle.ready.specs.declared.Ready.{Ready}
-use Rattle.ready.specs.declared.Counted.{Counted}
-use Rattle.ready.specs.Ready.{Prepared, readied, files_to, carried_out, ToldCall}
+use Rattle.ready.specs.Ready.{has_slot, slot_in, Ready, Prepared, readied, files_to, carried_out, Counted, ToldCall}
 use Rattle.acts.specs.declared.Change.{Change}
 use Rattle.acts.specs.declared.Change.TheVariants.{Same, Set, Touch}
-use Rattle.acts.specs.declared.Made.{Made}
+use Rattle.acts.specs.declared.Made as code
+
+-- the number; the stores; the pages that get their bytes back; whether page 0's frame is written, and its slot; the change; the head
+pub record Made : Type 0 where
+  pub number : ℕ
+  pub plan : Plan
+  pub back : Picked
+  pub meta : Bool
+  pub slot : ℕ
+  pub change : Change
+  pub head : Head
+
+-- what the code makes ready is an accepted call
+abbrev pub accepted : code.Made → Made
+accepted m =
+    record { number = 0; plan = m.plan; back = m.back; meta = has_slot m.meta; slot = slot_in m.meta; change = m.change; head = m.head }
 
 -- ---- what is changed in the arrays
 
@@ -114,6 +127,11 @@ plain_made plan x h = record { number = 0; plan = plan; back = picked_of 64 []; 
 
 unfoldable pub meta_made : Plan → Picked → ℕ → Change → Head → Made
 meta_made plan back slot x h = record { number = 0; plan = plan; back = back; meta = true; slot = slot; change = x; head = h }
+
+-- what making a call on a store with the head h ready answers
+abbrev pub made_of : Head → Result code.Made Refusal → Made
+made_of h (Ok m) = accepted m
+made_of h (Err r) = bare_made (number_of r) Same h
 
 -- ---- carried out, cut, counted, told
 

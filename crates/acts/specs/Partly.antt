@@ -5,8 +5,7 @@ use Rattle.world.specs.World.{files_of}
 use Rattle.world.specs.Calls.{Call}
 use Rattle.stores.specs.Room.{Carried}
 use Rattle.lent.specs.Lent.{Lent, store_of, unless_odd}
-use Rattle.ready.specs.declared.Counted.{Counted}
-use Rattle.ready.specs.Ready.{called_to, counted_for, ToldCall, told_for}
+use Rattle.ready.specs.Ready.{called_to, Counted, counted_for, ToldCall, told_for}
 
 -- cut at its k-th store
 unfoldable pub cut_lent : ℕ → ℕ → Call → Lent → List ℕ → List ℕ → List ℕ → List ℕ → Carried

@@ -1,25 +1,26 @@
 // A call with stores on a store that stands where it is lent, made ready and then carried out. Making ready changes nothing: it gives a small value, the call's
-// number, its stores as a plan, what it changes in the lent arrays, and the head after it. Then the call is carried out, or cut at a store as if power went there,
-// or its stores are counted or told. What is here serves every such call. Every public function is total: its contract is one equation.
+// stores as a plan, what it changes in the lent arrays, and the head after it; or it refuses the call, and nothing is left to do. Then the call is carried out, or
+// cut at a store as if power went there, or its stores are counted or told. What is here serves every such call. Every public function is total: its contract is
+// one equation.
 #![tactic(auto)]
 
-ghost use Rattle.std.specs.Prelude.{◌≡◌, cond, ◌*◌};
-ghost use Rattle.std.proofs.lemmas.List.Edits.{sets};
+ghost use Rattle.std.specs.Prelude.{◌≡◌, Ok};
 ghost use Rattle.fields.specs.Files.{file_of};
-ghost use Rattle.rows.specs.Rows.{rowed};
-ghost use Rattle.seats.specs.Seats.{seated_in, marked_in};
-ghost use Rattle.stores.specs.Room.{cut_of};
+ghost use Rattle.fields.specs.Refusals.{number_in};
+ghost use Rattle.rows.specs.Rows.{set_row, rowed_in};
+ghost use Rattle.seats.specs.Seats.{seated_by, marked_by};
+ghost use Rattle.stores.specs.Room.{cut, cut_of};
 ghost use Rattle.lent.specs.Lent.{lent, leaving};
-ghost use Rattle.ready.specs.Ready.{meta_of, refill, told_by};
-ghost use Rattle.acts.specs.Made.{rows_after, touched_after, resident_after, after_in, bare_made, plain_made, meta_made, made_in, left_by, cut_made, counted_made, told_made};
+ghost use Rattle.ready.specs.Ready.{has_slot, refill, counted, told_by};
+ghost use Rattle.ready.specs.Inside.{laid_meta};
+ghost use Rattle.acts.specs.Made.{rows_after, touched_after, resident_after, after_in, bare_made, plain_made, meta_made, accepted, made_in, left_by, cut_made, counted_made, told_made};
 ghost use Rattle.acts.specs.Inside.{files_left, files_made};
 
-use fields::{TransactionId, numbers};
-use lent::{Head, Reply};
+use fields::{Refusal, TransactionId, numbers};
+use lent::Head;
 use meta::Counters;
 use picks::Picked;
-use ready::{Counted, Told};
-use stores::{Cut, Plan};
+use stores::{Plan, Telling};
 use table::Status;
 use world::Lens;
 
@@ -34,63 +35,56 @@ pub enum Change {
     Touch(u32),
 }
 
-// What a call would do: its number; its stores; the pages whose frames get the file's bytes back; whether page 0 becomes resident and its frame gets the plan's
-// counters, and the slot of that frame; the change; the head after it but for the lengths of the files and the counts of what is changed. A refused call has no
-// stores, changes nothing and has the old head.
+// What an accepted call would do: its stores; the pages whose frames get the file's bytes back; the slot of page 0's frame, where page 0 becomes resident and its
+// frame gets the plan's counters; the change; the head after it but for the lengths of the files and the counts of what is changed.
 #[derive(Clone, Copy)]
 pub struct Made {
-    pub number: u8,
     pub plan: Plan,
     pub back: Picked,
-    pub meta: bool,
-    pub slot: usize,
+    pub meta: Option<usize>,
     pub change: Change,
     pub head: Head,
 }
 
-// A call that has no stores: refused, or with nothing to do but for a change.
-pub fn bare(number: u8, change: Change, head: Head) -> Made
-    ensures { result ≡ bare_made number change head }
+// A call that has no stores: there is nothing to do but for a change.
+pub fn bare(change: Change, head: Head) -> Made
+    ensures { accepted result ≡ bare_made 0 change head }
 {
-    Made {
-        number,
-        plan: plans::no_plan(),
-        back: picks::none(),
-        meta: false,
-        slot: 0,
-        change,
-        head,
-    }
+    plain_call(plans::no_plan(), change, head)
 }
 
-// An accepted call that leaves the frames as they are.
+// A call that leaves the frames as they are.
 pub fn plain_call(plan: Plan, change: Change, head: Head) -> Made
-    ensures { result ≡ plain_made plan change head }
+    ensures { accepted result ≡ plain_made plan change head }
 {
     Made {
-        number: numbers::ACCEPTED,
         plan,
         back: picks::none(),
-        meta: false,
-        slot: 0,
+        meta: None,
         change,
         head,
     }
 }
 
-// An accepted call that gives picked pages the file's bytes back, and writes page 0's frame, which has this slot.
+// A call that gives picked pages the file's bytes back, and writes page 0's frame, which has this slot.
 pub fn meta_call(plan: Plan, back: Picked, slot: usize, change: Change, head: Head) -> Made
-    ensures { result ≡ meta_made plan back slot change head }
+    ensures { accepted result ≡ meta_made plan back slot change head }
 {
     Made {
-        number: numbers::ACCEPTED,
         plan,
         back,
-        meta: true,
-        slot,
+        meta: Some(slot),
         change,
         head,
     }
+}
+
+// Whether the table has room for a status of this id.
+pub fn check_table(rows: &[[u64; 3]; 256], n: usize, id: TransactionId) -> Result<(), Refusal>
+    ensures { number_in result ≡ (set_row 256 rows.now n (record { id = id; status = Status.Active })).number }
+{
+    rows::check_status(rows, n, id)?;
+    Ok(())
 }
 
 // ---- the stores and the frames
@@ -99,21 +93,19 @@ pub fn meta_call(plan: Plan, back: Picked, slot: usize, change: Change, head: He
 fn give_back(x: Picked, db: &[u8], len: usize, frames: &mut [u8])
     ensures { frames.new ≡ refill 4096 (file_of db.now len) x frames.old }
 {
-    let n = fields::smaller(x.n, 64);
-    let mut i = 0;
-    while i < n {
+    for i in 0..x.n.min(64) {
         frames::fill_frame(frames, x.slots[i], db, len, x.pages[i]);
-        i += 1;
     }
 }
 
-// The counters into a frame. Whether the slot lies past the buffer's end is tested before its place is worked out, which could overflow.
-fn lay_meta(frames: &mut [u8], meta: bool, slot: usize, m: Counters)
-    ensures { frames.new ≡ cond meta (sets frames.old (slot * 4096) (meta_of 4096 m)) frames.old }
+// The counters into a frame, where there is one to write. Whether the slot lies past the buffer's end is tested before its place is worked out, which could
+// overflow.
+fn lay_meta(frames: &mut [u8], meta: Option<usize>, m: Counters)
+    ensures { frames.new ≡ laid_meta 4096 meta m frames.old }
 {
-    if !meta {
+    let Some(slot) = meta else {
         return;
-    }
+    };
     if frames.len() / numbers::PAGE_SIZE < slot {
         return;
     }
@@ -122,60 +114,47 @@ fn lay_meta(frames: &mut [u8], meta: bool, slot: usize, m: Counters)
 
 // The stores first, while the frames are as they were; then the frames, from the file that they leave.
 fn carry_files(m: Made, log: &mut [u8], db: &mut [u8], clog: &mut [u8], frames: &mut [u8]) -> Lens
-    ensures { files_left result log.new db.new clog.new frames.new ≡ files_made 4096 m log.old db.old clog.old frames.old }
+    ensures { files_left result log.new db.new clog.new frames.new ≡ files_made 4096 (accepted m) log.old db.old clog.old frames.old }
 {
-    let plan = m.plan;
-    let head = m.head;
-    let lens = head.lens;
-    let cut = stores::carry_on(plan, 0, MOST, lens, log, db, clog, &frames[..]);
-    let end = cut.lens;
-    let back = m.back;
-    give_back(back, &db[..], end.db, frames);
-    let c = plan.meta;
-    lay_meta(frames, m.meta, m.slot, c);
+    let end = cut_at(m, MOST, log, db, clog, &frames[..]);
+    give_back(m.back, &db[..], end.db, frames);
+    lay_meta(frames, m.meta, m.plan.meta);
     end
 }
 
 // ---- the arrays
 
-fn change_rows(rows: &mut [[u64; 3]; 256], n: usize, change: Change) -> rows::Counted
-    ensures { rowed result rows.new ≡ rows_after rows.old n change }
+fn change_rows(rows: &mut [[u64; 3]; 256], n: usize, change: Change) -> Result<usize, Refusal>
+    ensures { rowed_in n result rows.new ≡ rows_after rows.old n change }
 {
-    let none = rows::Counted {
-        number: numbers::ACCEPTED,
-        count: n,
-    };
     match change {
-        Change::Same => none,
         Change::Set(id, status) => rows::with_status(rows, n, id, status),
-        Change::Touch(_) => none,
+        Change::Same | Change::Touch(_) => Ok(n),
     }
 }
 
-fn change_touched(touched: &mut [u64; 64], n: usize, change: Change) -> seats::Kept
-    ensures { marked_in result.number touched.new result.count ≡ touched_after touched.old n change }
+fn change_touched(touched: &mut [u64; 64], n: usize, change: Change) -> Result<usize, Refusal>
+    ensures { marked_by n result touched.new ≡ touched_after touched.old n change }
 {
-    let none = seats::Kept {
-        number: numbers::ACCEPTED,
-        count: n,
-    };
     match change {
-        Change::Same => none,
-        Change::Set(_, _) => none,
         Change::Touch(page) => seats::mark(touched, n, page),
+        Change::Same | Change::Set(_, _) => Ok(n),
     }
 }
 
-fn change_resident(resident: &mut [u32; 64], n: usize, size: usize, meta: bool) -> seats::Kept
-    ensures { seated_in result.number resident.new result.count ≡ resident_after 4096 size resident.old n meta }
+// Page 0 becomes resident where its frame is written.
+fn change_resident(
+    resident: &mut [u32; 64],
+    n: usize,
+    size: usize,
+    meta: Option<usize>,
+) -> Result<usize, Refusal>
+    ensures { seated_by n result resident.new ≡ resident_after 4096 size resident.old n (has_slot meta) }
 {
-    if !meta {
-        return seats::Kept {
-            number: numbers::ACCEPTED,
-            count: n,
-        };
+    match meta {
+        Some(_) => seats::seat(resident, n, size, 0),
+        None => Ok(n),
     }
-    seats::seat(resident, n, size, 0)
 }
 
 // The store after the call, where it stands, but for the lengths of the files.
@@ -186,17 +165,16 @@ fn change_arrays(
     resident: &mut [u32; 64],
     touched: &mut [u64; 64],
 ) -> Head
-    ensures { lent result rows.new resident.new touched.new ≡ after_in 4096 size m rows.old resident.old touched.old }
+    ensures { lent result rows.new resident.new touched.new ≡ after_in 4096 size (accepted m) rows.old resident.old touched.old }
 {
     let head = m.head;
-    let change = m.change;
-    let t = change_rows(rows, head.entries, change);
+    let t = change_rows(rows, head.entries, m.change);
     let f = change_resident(resident, head.resident, size, m.meta);
-    let x = change_touched(touched, head.touched, change);
+    let x = change_touched(touched, head.touched, m.change);
     Head {
-        entries: t.count,
-        resident: f.count,
-        touched: x.count,
+        entries: t.unwrap_or(head.entries),
+        resident: f.unwrap_or(head.resident),
+        touched: x.unwrap_or(head.touched),
         ..head
     }
 }
@@ -212,20 +190,16 @@ pub fn carry_out(
     db: &mut [u8],
     clog: &mut [u8],
     frames: &mut [u8],
-) -> Reply
-    ensures { leaving result.number (lent result.head rows.new resident.new touched.new) log.new db.new clog.new frames.new ≡ left_by 4096 (made_in 4096 m rows.old resident.old touched.old log.old db.old clog.old frames.old) log.old db.old clog.old }
+) -> Head
+    ensures { leaving 0 (lent result rows.new resident.new touched.new) log.new db.new clog.new frames.new ≡ left_by 4096 (made_in 4096 (accepted m) rows.old resident.old touched.old log.old db.old clog.old frames.old) log.old db.old clog.old }
 {
     let size = frames.len();
     let end = carry_files(m, log, db, clog, frames);
     let after = change_arrays(m, size, rows, resident, touched);
-    let head = Head { lens: end, ..after };
-    Reply {
-        number: m.number,
-        head,
-    }
+    Head { lens: end, ..after }
 }
 
-// As if power went after the first k stores: what memory would hold is gone, so the files alone are left.
+// As if power went after the first k stores: what memory would hold is gone, so the files alone are left. Where stores are refused, the files stay.
 pub fn cut_at(
     m: Made,
     k: usize,
@@ -233,41 +207,22 @@ pub fn cut_at(
     db: &mut [u8],
     clog: &mut [u8],
     frames: &[u8],
-) -> Cut
-    ensures { cut_of result log.new db.new clog.new ≡ cut_made 4096 k m log.old db.old clog.old frames.now }
+) -> Lens
+    ensures { cut_of (cut m.head.lens (Ok result)) log.new db.new clog.new ≡ cut_made 4096 k (accepted m) log.old db.old clog.old frames.now }
 {
-    let plan = m.plan;
-    let head = m.head;
-    let lens = head.lens;
-    let cut = stores::carry_on(plan, 0, k, lens, log, db, clog, frames);
-    let end = cut.lens;
-    Cut {
-        number: m.number,
-        lens: end,
-    }
+    let lens = m.head.lens;
+    stores::carry_on(m.plan, 0, k, lens, log, db, clog, frames).unwrap_or(lens)
 }
 
-pub fn count_of(m: Made) -> Counted
-    ensures { result ≡ counted_made m }
+pub fn count_of(m: Made) -> usize
+    ensures { counted (Ok result) ≡ counted_made (accepted m) }
 {
-    let plan = m.plan;
-    let stores = stores::count(plan);
-    Counted {
-        number: m.number,
-        stores,
-    }
+    stores::count(m.plan)
 }
 
 // The lengths are those before the call, since making ready changes none of them.
-pub fn told_at(m: Made, k: usize) -> Told
-    ensures { told_by result ≡ told_made 4096 k m }
+pub fn told_at(m: Made, k: usize) -> Option<Telling>
+    ensures { told_by (Ok result) ≡ told_made 4096 k (accepted m) }
 {
-    let plan = m.plan;
-    let head = m.head;
-    let lens = head.lens;
-    let telling = stores::tell(plan, k, lens);
-    Told {
-        number: m.number,
-        telling,
-    }
+    stores::tell(m.plan, k, m.head.lens)
 }

@@ -9,10 +9,8 @@ use Rattle.fields.specs.Answers.{no_time}
 use Rattle.fields.specs.declared.TransactionId.{TransactionId}
 use Rattle.table.specs.declared.Status.TheVariants.{Active}
 use Rattle.table.specs.declared.Entry.{Entry}
-use Rattle.table.specs.declared.Inserted.{Inserted}
-use Rattle.table.specs.Entries.{inserted}
-use Rattle.rows.specs.declared.Counted.{Counted}
-use Rattle.rows.specs.Rows.{row_kept, set_row}
+use Rattle.table.specs.Entries.{Inserted, inserted}
+use Rattle.rows.specs.Rows.{set_row}
 use Rattle.rows.proofs.Laws.{set-is-inserted}
 use Rattle.world.specs.World.{files_of}
 use Rattle.world.specs.Calls.{Begin}
@@ -32,8 +30,7 @@ use Rattle.ready.specs.Inside.{ready_for}
 use Rattle.calls.specs.Inside.{begun_store}
 use Rattle.calls.proofs.Begun.{begin-short, begin-7, begin-out}
 use Rattle.acts.specs.declared.Change.TheVariants.{Same, Set}
-use Rattle.acts.specs.declared.Made.{Made}
-use Rattle.acts.specs.Made.{rows_after, touched_after, resident_after, counted_head, after_in, ready_in, bare_made, plain_made, made_in}
+use Rattle.acts.specs.Made.{Made, rows_after, touched_after, resident_after, counted_head, after_in, ready_in, bare_made, plain_made, made_in}
 use Rattle.acts.specs.Inside.{ready_lent}
 use Rattle.acts.proofs.Laws.{made-no, made-out, laid-after}
 use Rattle.begins.specs.Inside.{begun_head}
@@ -55,21 +52,20 @@ module _ (P : ℕ) (s : Lent) (z : Fit s) (id : TransactionId) (log db clog fram
   abbrev t : Inserted
   t = inserted 256 u.table entry
 
-  module _ (k : ℕ) (room : k ≡ number_for P (meant P frames plan) (files_of s.head.lens log db clog)) (ok : k ≡ 0) (x : Counted)
-      (set : x ≡ row_kept (set_row 256 s.rows s.head.entries entry)) where
-    room_store : k ≡ number_for P (meant P frames plan) (files_of u.lens log db clog)
+  module _ (room : 0 ≡ number_for P (meant P frames plan) (files_of s.head.lens log db clog)) (k : ℕ) (set : k ≡ (set_row 256 s.rows s.head.entries entry).number) where
+    room_store : 0 ≡ number_for P (meant P frames plan) (files_of u.lens log db clog)
     unfolding store_of
     room_store = room
 
-    number_is : x.number ≡ t.number
+    number_is : k ≡ t.number
     unfolding store_of
-    number_is = ap (λ (y : Counted). y.number) set ∙ ap (λ (i : Inserted). i.number) (set-is-inserted 256 s.rows s.head.entries entry)
+    number_is = set ∙ ap (λ (i : Inserted). i.number) (set-is-inserted 256 s.rows s.head.entries entry)
 
-    pub begin-7-made : m ≡ bare_made 7 Same s.head → (x.number ≡ 0 → ⊥) →
+    pub begin-7-made : m ≡ bare_made k Same s.head → (k ≡ 0 → ⊥) →
         made_in P m s.rows s.resident s.touched log db clog frames ≡ ready_lent P (Begin id) s log db clog frames
     begin-7-made i h =
-        made-no P (Begin id) s log db clog frames m fine 7 i (λ e. omega arith)
-        (begin-7 P id u log db clog frames e0 plan is (sized s z) k room_store ok t refl (idle 7 u) refl (λ e. h (number_is ∙ e)))
+        made-no P (Begin id) s log db clog frames m fine k i h
+        (begin-7 P id u log db clog frames e0 plan is (sized s z) room_store t refl (idle k u) (ap (λ (n : ℕ). idle n u) number_is) (λ e. h (number_is ∙ e)))
 
     -- what is made ready
     abbrev out : Made
@@ -82,19 +78,19 @@ module _ (P : ℕ) (s : Lent) (z : Fit s) (id : TransactionId) (log db clog fram
     unfolding store_of after_in counted_head plain_made begun_head begun_store rows_after touched_after resident_after
     store_is = ap (λ (i : Inserted). begun_store u id i.table) (set-is-inserted 256 s.rows s.head.entries entry)
 
-    out-ready : x.number ≡ 0 →
+    out-ready : k ≡ 0 →
         readied P (ready_in P (length frames) out s.rows s.resident s.touched) log db clog frames ≡ ready_for P (Begin id) u log db clog frames
     unfolding ready_in plain_made plain
     out-ready h =
-        begin-out P id u log db clog frames e0 plan is (sized s z) k room_store ok t refl (sym number_is ∙ h)
+        begin-out P id u log db clog frames e0 plan is (sized s z) room_store t refl (sym number_is ∙ h)
         (ready_in P (length frames) out s.rows s.resident s.touched) (store_of after) store_is refl
 
-    out-laid : x.number ≡ 0 → made_in P out s.rows s.resident s.touched log db clog frames ≡ ready_lent P (Begin id) s log db clog frames
+    out-laid : k ≡ 0 → made_in P out s.rows s.resident s.touched log db clog frames ≡ ready_lent P (Begin id) s log db clog frames
     unfolding plain_made begun_head
     out-laid h =
         made-out P (Begin id) s log db clog frames out fine refl (laid-after P s z fine log db clog frames e0 out refl refl (omega arith) refl refl) (out-ready h)
 
-    pub begin-made : (h : Head) → h ≡ begun_head s.head id → m ≡ plain_made plan (Set id Active) h → x.number ≡ 0 →
+    pub begin-made : (h : Head) → h ≡ begun_head s.head id → m ≡ plain_made plan (Set id Active) h → k ≡ 0 →
         made_in P m s.rows s.resident s.touched log db clog frames ≡ ready_lent P (Begin id) s log db clog frames
     begin-made h a i e =
         ap (λ (y : Made). made_in P y s.rows s.resident s.touched log db clog frames) (i ∙ ap (λ (g : Head). plain_made plan (Set id Active) g) a) ∙ out-laid e

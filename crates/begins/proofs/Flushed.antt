@@ -6,14 +6,14 @@ use mathlib.Core.List.{List, [], ◌∷◌}
 use mathlib.Core.Bool.{true, false}
 use lib.ListN.{length, take}
 use borrow.Author.Tests.{ne_eqb}
+use Rattle.fields.specs.declared.refusal.Refusal.{Refusal}
+use Rattle.fields.specs.Refusals.{number_of}
+use Rattle.fields.proofs.AnswerLaws.{number-positive}
 use Rattle.fields.specs.Answers.{no_id, no_time}
-use Rattle.frames.specs.declared.Marked.{Marked}
-use Rattle.frames.specs.declared.Place.{Place}
-use Rattle.frames.specs.declared.Place.TheVariants.{At, Nowhere}
+use Rattle.std.specs.Prelude.{Option, Some, None}
 use Rattle.frames.specs.Pages as pages
-use Rattle.frames.specs.Pages.{place_told, found_in, marked}
-use Rattle.seats.specs.declared.Kept.{Kept}
-use Rattle.seats.specs.Seats.{touched_in, mark_kept}
+use Rattle.frames.specs.Pages.{place_told, found_in, touch, touched_of, laid_touched, Marked, marked}
+use Rattle.seats.specs.Seats.{touched_in, mark_kept, Kept}
 use Rattle.world.specs.World.{files_of}
 use Rattle.world.specs.Calls.{Flush}
 use Rattle.world.specs.Refusals.{front_no, is_installed}
@@ -33,8 +33,7 @@ use Rattle.ready.specs.Ready.{idle, plain}
 use Rattle.calls.specs.Inside.{marked_as}
 use Rattle.calls.proofs.Flushed.{flush-10, flush-in, flush-absent, flush-short, flush-out}
 use Rattle.acts.specs.declared.Change.TheVariants.{Same, Touch}
-use Rattle.acts.specs.declared.Made.{Made}
-use Rattle.acts.specs.Made.{rows_after, touched_after, resident_after, counted_head, after_in, ready_in, bare_made, plain_made, made_in}
+use Rattle.acts.specs.Made.{Made, rows_after, touched_after, resident_after, counted_head, after_in, ready_in, bare_made, plain_made, made_in}
 use Rattle.acts.specs.Inside.{ready_lent}
 use Rattle.acts.proofs.Laws.{made-no, made_none, made-out, slot_kept, laid-after}
 use Rattle.begins.specs.Inside.{marked_made}
@@ -45,13 +44,14 @@ module _ (h : Head) (touched : List ℕ) (p : ℕ) (x : Kept) (is : x ≡ mark_k
   number_is : x.number ≡ (marked 64 (touched_in touched h.touched) p).number
   number_is = ap (λ (k : Kept). k.number) is
 
-  pub marked-full : m ≡ bare_made x.number Same h → (x.number ≡ 0 → ⊥) → m ≡ marked_made h touched p
+  refused : (n : ℕ) → 0 < n → bare_made n Same h ≡ decided n (bare_made 0 (Touch p) h) (bare_made n Same h)
+  refused zero b = absurd (omega arith)
+  refused (suc n) b = refl
+
+  pub marked-full : (r : Refusal) → m ≡ bare_made (number_of r) Same h → x.number ≡ number_of r → m ≡ marked_made h touched p
   unfolding marked_made
-  marked-full i some = i ∙ go x.number some ∙ ap (λ (n : ℕ). decided n (bare_made 0 (Touch p) h) (bare_made n Same h)) number_is
-    where
-      go : (n : ℕ) → (n ≡ 0 → ⊥) → bare_made n Same h ≡ decided n (bare_made 0 (Touch p) h) (bare_made n Same h)
-      go zero some = absurd (some refl)
-      go (suc n) some = refl
+  marked-full r i e =
+      i ∙ refused (number_of r) (number-positive r) ∙ ap (λ (n : ℕ). decided n (bare_made 0 (Touch p) h) (bare_made n Same h)) (sym e ∙ number_is)
 
   pub marked-fine : m ≡ bare_made 0 (Touch p) h → x.number ≡ 0 → m ≡ marked_made h touched p
   unfolding marked_made
@@ -125,7 +125,7 @@ module _ (P : ℕ) (s : Lent) (z : Fit s) (p : ℕ) (log db clog frames : List �
 
     -- ---- outside
 
-    module _ (lacks : s.head.held ≡ 1 → ⊥) (place : Place) (found : place_told place ≡ found_in p (take s.head.resident s.resident)) where
+    module _ (lacks : s.head.held ≡ 1 → ⊥) (place : Option ℕ) (found : place_told place ≡ found_in p (take s.head.resident s.resident)) where
       outside : is_installed u.held.slot ≡ false
       unfolding store_of
       outside = rw (ne_eqb s.head.held 1 lacks)
@@ -134,13 +134,13 @@ module _ (P : ℕ) (s : Lent) (z : Fit s) (p : ℕ) (log db clog frames : List �
       unfolding store_of
       found-store = found
 
-      pub flush-absent-made : m ≡ bare_made 0 Same s.head → place ≡ Nowhere →
+      pub flush-absent-made : m ≡ bare_made 0 Same s.head → place ≡ None →
           made_in P m s.rows s.resident s.touched log db clog frames ≡ ready_lent P (Flush p) s log db clog frames
       flush-absent-made i e =
           made_none P (Flush p) s log db clog frames m fine i (laid_same s fine z P log db clog frames e0)
           (flush-absent P p u log db clog frames e0 good (sized s z) outside place found-store (idle 0 u) refl e)
 
-      module _ (slot : ℕ) (at : place ≡ At slot) (plan : Plan) (planned : plan ≡ plan_of kind.Flush no_id no_time (seat p slot ∷ []) no_counters) (n : ℕ)
+      module _ (slot : ℕ) (at : place ≡ Some slot) (plan : Plan) (planned : plan ≡ plan_of kind.Flush no_id no_time (seat p slot ∷ []) no_counters) (n : ℕ)
           (room : n ≡ number_for P (meant P frames plan) (files_of s.head.lens log db clog)) where
         room_store : n ≡ number_for P (meant P frames plan) (files_of u.lens log db clog)
         unfolding store_of

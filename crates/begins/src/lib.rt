@@ -5,21 +5,20 @@
 
 ghost use Rattle.std.specs.Prelude.{◌≡◌};
 ghost use Rattle.world.specs.Calls.{Begin, Flush};
-ghost use Rattle.stores.specs.Room.{cut_of};
-ghost use Rattle.lent.specs.Lent.{lent, leaving, called_lent};
-ghost use Rattle.ready.specs.Ready.{told_by};
-ghost use Rattle.acts.specs.Made.{made_in};
+ghost use Rattle.stores.specs.Room.{cut, cut_of};
+ghost use Rattle.lent.specs.Lent.{lent, replied, leaving, called_lent};
+ghost use Rattle.ready.specs.Ready.{counted, told_by};
+ghost use Rattle.acts.specs.Made.{made_of, made_in};
 ghost use Rattle.acts.specs.Partly.{cut_lent, counted_lent, told_lent};
 ghost use Rattle.acts.specs.Inside.{ready_lent};
 ghost use Rattle.begins.specs.Inside.{begun_head, marked_made};
 
 use acts::{Change, Made};
-use fields::{TransactionId, numbers};
-use frames::Place;
-use lent::{Head, Reply};
-use ready::{Counted, Told};
-use stores::Cut;
+use fields::{Refusal, TransactionId, numbers};
+use lent::Head;
+use stores::Telling;
 use table::Status;
+use world::Lens;
 
 // ---- begin
 
@@ -45,29 +44,15 @@ fn ready_begin(
     db: &[u8],
     clog: &[u8],
     frames: &[u8],
-) -> Made
-    ensures { made_in 4096 result rows.now resident.now touched.now log.now db.now clog.now frames.now ≡ ready_lent 4096 (Begin id) (lent h rows.now resident.now touched.now) log.now db.now clog.now frames.now }
+) -> Result<Made, Refusal>
+    ensures { made_in 4096 (made_of h result) rows.now resident.now touched.now log.now db.now clog.now frames.now ≡ ready_lent 4096 (Begin id) (lent h rows.now resident.now touched.now) log.now db.now clog.now frames.now }
 {
-    // Nothing reads these slices: with them the proof knows the arrays' sizes.
-    let a = &rows[..];
-    let b = &resident[..];
-    let c = &touched[..];
-    let no = lent::front_no(h, rows, resident, touched, log, db, clog, frames);
-    if no != numbers::ACCEPTED {
-        return acts::bare(no, Change::Same, h);
-    }
+    lent::check_front(h, rows, resident, touched, log, db, clog, frames)?;
     let plan = plans::begin_plan(id);
-    let lens = h.lens;
-    let short = stores::room_no(plan, lens, log, db, clog, frames);
-    if short != numbers::ACCEPTED {
-        return acts::bare(short, Change::Same, h);
-    }
-    let set = rows::set_no(rows, h.entries, id);
-    if set.number != numbers::ACCEPTED {
-        return acts::bare(numbers::TABLE_FULL, Change::Same, h);
-    }
+    stores::check_room(plan, h.lens, log, db, clog, frames)?;
+    acts::check_table(rows, h.entries, id)?;
     let after = with_begun(h, id);
-    acts::plain_call(plan, Change::Set(id, Status::Active), after)
+    Ok(acts::plain_call(plan, Change::Set(id, Status::Active), after))
 }
 
 // A transaction begins, in the place of any that was in: table, begin record, clog.
@@ -81,8 +66,8 @@ pub fn begin(
     db: &mut [u8],
     clog: &mut [u8],
     frames: &mut [u8],
-) -> Reply
-    ensures { leaving result.number (lent result.head rows.new resident.new touched.new) log.new db.new clog.new frames.new ≡ called_lent 4096 (Begin id) (lent h rows.old resident.old touched.old) log.old db.old clog.old frames.old }
+) -> Result<Head, Refusal>
+    ensures { leaving (replied h result).number (lent (replied h result).head rows.new resident.new touched.new) log.new db.new clog.new frames.new ≡ called_lent 4096 (Begin id) (lent h rows.old resident.old touched.old) log.old db.old clog.old frames.old }
 {
     let m = ready_begin(
         h,
@@ -94,8 +79,8 @@ pub fn begin(
         &db[..],
         &clog[..],
         &frames[..],
-    );
-    acts::carry_out(m, rows, resident, touched, log, db, clog, frames)
+    )?;
+    Ok(acts::carry_out(m, rows, resident, touched, log, db, clog, frames))
 }
 
 pub fn begin_to(
@@ -109,8 +94,8 @@ pub fn begin_to(
     db: &mut [u8],
     clog: &mut [u8],
     frames: &[u8],
-) -> Cut
-    ensures { cut_of result log.new db.new clog.new ≡ cut_lent 4096 k (Begin id) (lent h rows.now resident.now touched.now) log.old db.old clog.old frames.now }
+) -> Result<Lens, Refusal>
+    ensures { cut_of (cut h.lens result) log.new db.new clog.new ≡ cut_lent 4096 k (Begin id) (lent h rows.now resident.now touched.now) log.old db.old clog.old frames.now }
 {
     let m = ready_begin(
         h,
@@ -122,8 +107,8 @@ pub fn begin_to(
         &db[..],
         &clog[..],
         frames,
-    );
-    acts::cut_at(m, k, log, db, clog, frames)
+    )?;
+    Ok(acts::cut_at(m, k, log, db, clog, frames))
 }
 
 pub fn begin_count(
@@ -136,11 +121,11 @@ pub fn begin_count(
     db: &[u8],
     clog: &[u8],
     frames: &[u8],
-) -> Counted
-    ensures { result ≡ counted_lent 4096 (Begin id) (lent h rows.now resident.now touched.now) log.now db.now clog.now frames.now }
+) -> Result<usize, Refusal>
+    ensures { counted result ≡ counted_lent 4096 (Begin id) (lent h rows.now resident.now touched.now) log.now db.now clog.now frames.now }
 {
-    let m = ready_begin(h, rows, resident, touched, id, log, db, clog, frames);
-    acts::count_of(m)
+    let m = ready_begin(h, rows, resident, touched, id, log, db, clog, frames)?;
+    Ok(acts::count_of(m))
 }
 
 pub fn begin_told(
@@ -154,24 +139,21 @@ pub fn begin_told(
     db: &[u8],
     clog: &[u8],
     frames: &[u8],
-) -> Told
+) -> Result<Option<Telling>, Refusal>
     ensures { told_by result ≡ told_lent 4096 k (Begin id) (lent h rows.now resident.now touched.now) log.now db.now clog.now frames.now }
 {
-    let m = ready_begin(h, rows, resident, touched, id, log, db, clog, frames);
-    acts::told_at(m, k)
+    let m = ready_begin(h, rows, resident, touched, id, log, db, clog, frames)?;
+    Ok(acts::told_at(m, k))
 }
 
 // ---- flush
 
 // Inside a transaction a flush only marks its page.
-fn marked(h: Head, touched: &[u64; 64], page: u32) -> Made
-    ensures { result ≡ marked_made h touched.now page }
+fn marked(h: Head, touched: &[u64; 64], page: u32) -> Result<Made, Refusal>
+    ensures { made_of h result ≡ marked_made h touched.now page }
 {
-    let more = seats::mark_no(touched, h.touched, page);
-    if more.number != numbers::ACCEPTED {
-        return acts::bare(more.number, Change::Same, h);
-    }
-    acts::bare(numbers::ACCEPTED, Change::Touch(page), h)
+    seats::check_mark(touched, h.touched, page)?;
+    Ok(acts::bare(Change::Touch(page), h))
 }
 
 fn ready_flush(
@@ -184,34 +166,22 @@ fn ready_flush(
     db: &[u8],
     clog: &[u8],
     frames: &[u8],
-) -> Made
-    ensures { made_in 4096 result rows.now resident.now touched.now log.now db.now clog.now frames.now ≡ ready_lent 4096 (Flush page) (lent h rows.now resident.now touched.now) log.now db.now clog.now frames.now }
+) -> Result<Made, Refusal>
+    ensures { made_in 4096 (made_of h result) rows.now resident.now touched.now log.now db.now clog.now frames.now ≡ ready_lent 4096 (Flush page) (lent h rows.now resident.now touched.now) log.now db.now clog.now frames.now }
 {
-    // Nothing reads these slices: with them the proof knows the arrays' sizes.
-    let a = &rows[..];
-    let b = &resident[..];
-    let c = &touched[..];
-    let no = lent::front_no(h, rows, resident, touched, log, db, clog, frames);
-    if no != numbers::ACCEPTED {
-        return acts::bare(no, Change::Same, h);
-    }
+    lent::check_front(h, rows, resident, touched, log, db, clog, frames)?;
     if numbers::NO_PAGE <= page {
-        return acts::bare(numbers::BAD_PAGE, Change::Same, h);
+        return Err(Refusal::BadPage);
     }
     if h.held == 1 {
         return marked(h, touched, page);
     }
-    let place = seats::find(resident, h.resident, page);
-    let Place::At(at) = place else {
-        return acts::bare(numbers::ACCEPTED, Change::Same, h);
+    let Some(slot) = seats::find(resident, h.resident, page) else {
+        return Ok(acts::bare(Change::Same, h));
     };
-    let plan = plans::flush_plan(page, at);
-    let lens = h.lens;
-    let short = stores::room_no(plan, lens, log, db, clog, frames);
-    if short != numbers::ACCEPTED {
-        return acts::bare(short, Change::Same, h);
-    }
-    acts::plain_call(plan, Change::Same, h)
+    let plan = plans::flush_plan(page, slot);
+    stores::check_room(plan, h.lens, log, db, clog, frames)?;
+    Ok(acts::plain_call(plan, Change::Same, h))
 }
 
 // Inside a transaction the page is marked touched; outside, a resident page is logged, then written.
@@ -225,8 +195,8 @@ pub fn flush(
     db: &mut [u8],
     clog: &mut [u8],
     frames: &mut [u8],
-) -> Reply
-    ensures { leaving result.number (lent result.head rows.new resident.new touched.new) log.new db.new clog.new frames.new ≡ called_lent 4096 (Flush page) (lent h rows.old resident.old touched.old) log.old db.old clog.old frames.old }
+) -> Result<Head, Refusal>
+    ensures { leaving (replied h result).number (lent (replied h result).head rows.new resident.new touched.new) log.new db.new clog.new frames.new ≡ called_lent 4096 (Flush page) (lent h rows.old resident.old touched.old) log.old db.old clog.old frames.old }
 {
     let m = ready_flush(
         h,
@@ -238,8 +208,8 @@ pub fn flush(
         &db[..],
         &clog[..],
         &frames[..],
-    );
-    acts::carry_out(m, rows, resident, touched, log, db, clog, frames)
+    )?;
+    Ok(acts::carry_out(m, rows, resident, touched, log, db, clog, frames))
 }
 
 pub fn flush_to(
@@ -253,8 +223,8 @@ pub fn flush_to(
     db: &mut [u8],
     clog: &mut [u8],
     frames: &[u8],
-) -> Cut
-    ensures { cut_of result log.new db.new clog.new ≡ cut_lent 4096 k (Flush page) (lent h rows.now resident.now touched.now) log.old db.old clog.old frames.now }
+) -> Result<Lens, Refusal>
+    ensures { cut_of (cut h.lens result) log.new db.new clog.new ≡ cut_lent 4096 k (Flush page) (lent h rows.now resident.now touched.now) log.old db.old clog.old frames.now }
 {
     let m = ready_flush(
         h,
@@ -266,8 +236,8 @@ pub fn flush_to(
         &db[..],
         &clog[..],
         frames,
-    );
-    acts::cut_at(m, k, log, db, clog, frames)
+    )?;
+    Ok(acts::cut_at(m, k, log, db, clog, frames))
 }
 
 pub fn flush_count(
@@ -280,11 +250,11 @@ pub fn flush_count(
     db: &[u8],
     clog: &[u8],
     frames: &[u8],
-) -> Counted
-    ensures { result ≡ counted_lent 4096 (Flush page) (lent h rows.now resident.now touched.now) log.now db.now clog.now frames.now }
+) -> Result<usize, Refusal>
+    ensures { counted result ≡ counted_lent 4096 (Flush page) (lent h rows.now resident.now touched.now) log.now db.now clog.now frames.now }
 {
-    let m = ready_flush(h, rows, resident, touched, page, log, db, clog, frames);
-    acts::count_of(m)
+    let m = ready_flush(h, rows, resident, touched, page, log, db, clog, frames)?;
+    Ok(acts::count_of(m))
 }
 
 pub fn flush_told(
@@ -298,9 +268,9 @@ pub fn flush_told(
     db: &[u8],
     clog: &[u8],
     frames: &[u8],
-) -> Told
+) -> Result<Option<Telling>, Refusal>
     ensures { told_by result ≡ told_lent 4096 k (Flush page) (lent h rows.now resident.now touched.now) log.now db.now clog.now frames.now }
 {
-    let m = ready_flush(h, rows, resident, touched, page, log, db, clog, frames);
-    acts::told_at(m, k)
+    let m = ready_flush(h, rows, resident, touched, page, log, db, clog, frames)?;
+    Ok(acts::told_at(m, k))
 }

@@ -6,17 +6,17 @@ use mathlib.Core.List.{List, []}
 use mathlib.Core.Bool.{cond}
 use lib.ListN.{length}
 use lib.Dec.{ltb}
-use borrow.Author.Tests.{le-ltb, lt-ltb}
+use borrow.Author.Tests.{le-ltb}
 use Rattle.fields.specs.Answers.{no_time}
 use Rattle.fields.specs.declared.TransactionId.{TransactionId}
 use Rattle.table.specs.declared.Status.TheVariants.{Active}
 use Rattle.table.specs.declared.Entry.{Entry}
-use Rattle.table.specs.declared.Inserted.{Inserted}
-use Rattle.table.specs.Entries.{insert_entry, list_of, laid, inserted}
-use Rattle.table.proofs.Facts.{accepted-fits, refused_full, not-accepted, bounded-yes}
+use Rattle.table.specs.Entries.{Inserted, insert_entry, list_of, laid, inserted}
+use Rattle.table.proofs.Facts.{accepted-fits, bounded-yes}
 use Rattle.world.specs.World.{World, files_of}
 use Rattle.world.specs.Calls.{Begin, steps, keeps}
 use Rattle.world.specs.Refusals.{argument_no, hold_no, call_no, front_no}
+use Rattle.world.proofs.CallLaws.{inserted-number}
 use Rattle.stores.specs.declared.Plan.{Plan}
 use Rattle.stores.specs.declared.Kind.TheVariants as kind
 use Rattle.stores.specs.Plans.{meant}
@@ -27,11 +27,10 @@ use Rattle.form.specs.declared.Store.{Store}
 use Rattle.form.specs.Store.{entries_of, mem_of, world_of, laid_store}
 use Rattle.form.proofs.Arrays.{Sized}
 use Rattle.form.proofs.Front.{front-means, entries-are, resident-length, frames-same}
-use Rattle.ready.specs.declared.Ready.{Ready}
-use Rattle.ready.specs.Ready.{readied, idle, plain}
+use Rattle.ready.specs.Ready.{Ready, readied, idle, plain}
 use Rattle.ready.specs.Inside.{remembered, ready_for}
 use Rattle.calls.specs.Inside.{begun_store}
-use Rattle.ready.proofs.Prepared.{ready-no, ready-plain, ready-short, call-hold}
+use Rattle.ready.proofs.Prepared.{ready-own, ready-plain, ready-short, call-hold}
 
 module _ (P : ℕ) (id : TransactionId) (s : Store) (log db clog frames : List ℕ) where
   abbrev here : World
@@ -58,7 +57,7 @@ module _ (P : ℕ) (id : TransactionId) (s : Store) (log db clog frames : List �
     begin-short r n i e h =
         ready-short P (Begin id) s log db clog frames e0 no-argument none-touched (meant P frames plan) (begin-steps plan is) r n i e h
 
-    module _ (z : Sized s) (n : ℕ) (room : n ≡ number_for P (meant P frames plan) (files_of s.lens log db clog)) (ok : n ≡ 0) (t : Inserted)
+    module _ (z : Sized s) (room : 0 ≡ number_for P (meant P frames plan) (files_of s.lens log db clog)) (t : Inserted)
         (set : t ≡ inserted 256 s.table entry) where
       list : insert_entry entry (entries_of s.table) ≡ insert_entry entry (list_of s.table)
       list = ap (insert_entry entry) (entries-are P s log db clog frames (front-means P s log db clog frames e0) z)
@@ -67,15 +66,12 @@ module _ (P : ℕ) (id : TransactionId) (s : Store) (log db clog frames : List �
       unfolding hold_no keeps world_of mem_of
       hold =
           let i = front-means P s log db clog frames e0 in
-          call-hold P (Begin id) s log db clog frames e0 no-argument none-touched (meant P frames plan) (begin-steps plan is) (sym room ∙ ok)
+          call-hold P (Begin id) s log db clog frames e0 no-argument none-touched (meant P frames plan) (begin-steps plan is) (sym room)
           ∙ rw (list, le-ltb _ _ (resident-length P s log db clog frames i))
 
-      pub begin-7 : (r : Ready) → r ≡ idle 7 s → (t.number ≡ 0 → ⊥) → readied P r log db clog frames ≡ ready_for P (Begin id) s log db clog frames
-      unfolding inserted
+      pub begin-7 : (r : Ready) → r ≡ idle t.number s → (t.number ≡ 0 → ⊥) → readied P r log db clog frames ≡ ready_for P (Begin id) s log db clog frames
       begin-7 r i h =
-          let l = insert_entry entry (list_of s.table) in
-          let more = refused_full 256 s.table l (not-accepted 256 s.table l (λ e. h (ap (λ (x : Inserted). x.number) set ∙ e))) in
-          ready-no P (Begin id) s log db clog frames e0 r 6 i (hold ∙ rw (lt-ltb 256 (length l) more))
+          ready-own P (Begin id) s log db clog frames e0 r t.number i (ap (λ (x : Inserted). x.number) set ∙ inserted-number 256 s.table entry ∙ sym hold) h
 
       -- what it remembers, in the code's terms
       begin-store : t.table ≡ laid s.table (insert_entry entry (list_of s.table)) → remembered P (Begin id) s here ≡ begun_store s id t.table

@@ -9,11 +9,9 @@ use borrow.Author.Tests.{le-leb, lt-leb, lt-ltb}
 use Rattle.fields.specs.Answers.{no_id, no_time}
 use Rattle.fields.proofs.Tests.{Order, less, most, order}
 use Rattle.wal.specs.Records.{image}
-use Rattle.frames.specs.declared.Marked.{Marked}
-use Rattle.frames.specs.declared.Place.{Place}
-use Rattle.frames.specs.declared.Place.TheVariants.{At, Nowhere}
+use Rattle.std.specs.Prelude.{Option, Some, None}
 use Rattle.frames.specs.Pages as pages
-use Rattle.frames.specs.Pages.{is_in, slot_of, touch, laid_touched, frame_count, place_told, found_in, marked}
+use Rattle.frames.specs.Pages.{is_in, slot_of, touch, laid_touched, frame_count, place_told, found_in, Marked, marked}
 use Rattle.frames.specs.Copies.{frame_of}
 use Rattle.frames.proofs.Values.{at-means, nowhere-means, mark-yes, mark-no}
 use Rattle.world.specs.declared.Slot.{Slot}
@@ -35,8 +33,7 @@ use Rattle.form.specs.Store.{resident_of, touched_of, mem_of, world_of, laid_sto
 use Rattle.form.proofs.Arrays.{Sized}
 use Rattle.form.proofs.Front.{front-means, entries-length, resident-length, resident-are, touched-are, table_same, frames-same}
 use Rattle.form.proofs.Called.{quiet}
-use Rattle.ready.specs.declared.Ready.{Ready}
-use Rattle.ready.specs.Ready.{readied, idle, plain}
+use Rattle.ready.specs.Ready.{Ready, readied, idle, plain}
 use Rattle.ready.specs.Inside.{remembered, ready_for}
 use Rattle.calls.specs.Inside.{marked_as}
 use Rattle.ready.proofs.Prepared.{ready-no, ready-none, ready-still, still-short, still-out}
@@ -161,7 +158,7 @@ module _ (P p : ℕ) (s : Store) (log db clog frames : List ℕ) (e0 : front_no 
 
     -- ---- outside
 
-    module _ (outside : is_installed s.held.slot ≡ false) (place : Place) (found : place_told place ≡ found_in p (pages.resident_of s.frames)) where
+    module _ (outside : is_installed s.held.slot ≡ false) (place : Option ℕ) (found : place_told place ≡ found_in p (pages.resident_of s.frames)) where
       keeps_same : keeps P (Flush p) here ≡ here
       unfolding keeps world_of mem_of
       keeps_same = keeps-out P p here s.held.slot outside
@@ -175,13 +172,13 @@ module _ (P p : ℕ) (s : Store) (log db clog frames : List ℕ) (e0 : front_no 
       unfolding steps held_page world_of mem_of
       steps-is = steps-out P p here s.held.slot outside
 
-      pub flush-absent : (r : Ready) → r ≡ idle 0 s → place ≡ Nowhere → readied P r log db clog frames ≡ ready_for P (Flush p) s log db clog frames
+      pub flush-absent : (r : Ready) → r ≡ idle 0 s → place ≡ None → readied P r log db clog frames ≡ ready_for P (Flush p) s log db clog frames
       flush-absent r i e =
           let n : is_in p (resident_of s.frames) ≡ false =
           rw resident-same (nowhere-means p (pages.resident_of s.frames) (sym (ap place_told e) ∙ found)) in
           ready-still P (Flush p) s log db clog frames e0 z own keeps_same r i (steps-is ∙ rw n)
 
-      module _ (slot : ℕ) (at : place ≡ At slot) (plan : Plan) (planned : plan ≡ plan_of kind.Flush no_id no_time (seat p slot ∷ []) no_counters) where
+      module _ (slot : ℕ) (at : place ≡ Some slot) (plan : Plan) (planned : plan ≡ plan_of kind.Flush no_id no_time (seat p slot ∷ []) no_counters) where
         flush-steps : meant P frames plan ≡ steps P (Flush p) here
         unfolding held_page world_of mem_of
         flush-steps =

@@ -4,19 +4,19 @@
 
 ghost use Rattle.std.specs.Prelude.{◌≡◌};
 ghost use Rattle.world.specs.Calls.{Begin, Flush};
-ghost use Rattle.stores.specs.Room.{cut_of};
-ghost use Rattle.form.specs.Store.{outcome, called};
-ghost use Rattle.ready.specs.Ready.{readied, called_to, counted_for, told_by, told_for};
+ghost use Rattle.stores.specs.Room.{cut, cut_of};
+ghost use Rattle.form.specs.Store.{changed, outcome, called};
+ghost use Rattle.ready.specs.Ready.{readied, ready_of, called_to, counted, counted_for, told_by, told_for};
 ghost use Rattle.ready.specs.Inside.{ready_for};
 ghost use Rattle.calls.specs.Inside.{begun_store, marked_as};
 
-use fields::{TransactionId, numbers};
-use form::{Changed, Held, Store};
-use frames::{Place, Touched};
-use ready::{Counted, Ready, Told};
-use stores::Cut;
+use fields::{Refusal, TransactionId, numbers};
+use form::{Held, Store};
+use frames::Touched;
+use ready::Ready;
+use stores::Telling;
 use table::{Status, Table};
-use world::Slot;
+use world::{Lens, Slot};
 
 // ---- begin
 
@@ -24,13 +24,12 @@ use world::Slot;
 fn with_begun(s: Store, id: TransactionId, table: Table) -> Store
     ensures { result ≡ begun_store s id table }
 {
-    let old = s.held;
-    let touched = old.touched;
-    let pages = touched.pages;
-    let none = Touched { pages, count: 0 };
     let held = Held {
         slot: Slot::Installed(id),
-        touched: none,
+        touched: Touched {
+            count: 0,
+            ..s.held.touched
+        },
     };
     Store { table, held, ..s }
 }
@@ -42,27 +41,14 @@ fn ready_begin(
     db: &[u8],
     clog: &[u8],
     frames: &[u8],
-) -> Ready
-    ensures { readied 4096 result log.now db.now clog.now frames.now ≡ ready_for 4096 (Begin id) s log.now db.now clog.now frames.now }
+) -> Result<Ready, Refusal>
+    ensures { readied 4096 (ready_of s result) log.now db.now clog.now frames.now ≡ ready_for 4096 (Begin id) s log.now db.now clog.now frames.now }
 {
-    let no = form::front_no(s, log, db, clog, frames);
-    if no != numbers::ACCEPTED {
-        return ready::nothing(no, s);
-    }
+    form::check_front(s, log, db, clog, frames)?;
     let plan = plans::begin_plan(id);
-    let lens = s.lens;
-    let short = stores::room_no(plan, lens, log, db, clog, frames);
-    if short != numbers::ACCEPTED {
-        return ready::nothing(short, s);
-    }
-    let t = s.table;
-    let set = table::with_status(t, id, Status::Active);
-    if set.number != numbers::ACCEPTED {
-        return ready::nothing(numbers::TABLE_FULL, s);
-    }
-    let table = set.table;
-    let u = with_begun(s, id, table);
-    ready::plain_call(plan, u)
+    stores::check_room(plan, s.lens, log, db, clog, frames)?;
+    let table = table::with_status(s.table, id, Status::Active)?;
+    Ok(ready::plain_call(plan, with_begun(s, id, table)))
 }
 
 // A transaction begins, in the place of any that was in: table, begin record, clog.
@@ -73,11 +59,11 @@ pub fn begin(
     db: &mut [u8],
     clog: &mut [u8],
     frames: &mut [u8],
-) -> Changed
-    ensures { outcome result log.new db.new clog.new frames.new ≡ called 4096 (Begin id) s log.old db.old clog.old frames.old }
+) -> Result<Store, Refusal>
+    ensures { outcome (changed s result) log.new db.new clog.new frames.new ≡ called 4096 (Begin id) s log.old db.old clog.old frames.old }
 {
-    let r = ready_begin(s, id, &log[..], &db[..], &clog[..], &frames[..]);
-    ready::carry_out(r, log, db, clog, frames)
+    let r = ready_begin(s, id, &log[..], &db[..], &clog[..], &frames[..])?;
+    Ok(ready::carry_out(r, log, db, clog, frames))
 }
 
 pub fn begin_to(
@@ -88,11 +74,11 @@ pub fn begin_to(
     db: &mut [u8],
     clog: &mut [u8],
     frames: &[u8],
-) -> Cut
-    ensures { cut_of result log.new db.new clog.new ≡ called_to 4096 k (Begin id) s log.old db.old clog.old frames.now }
+) -> Result<Lens, Refusal>
+    ensures { cut_of (cut s.lens result) log.new db.new clog.new ≡ called_to 4096 k (Begin id) s log.old db.old clog.old frames.now }
 {
-    let r = ready_begin(s, id, &log[..], &db[..], &clog[..], frames);
-    ready::cut_at(r, k, log, db, clog, frames)
+    let r = ready_begin(s, id, &log[..], &db[..], &clog[..], frames)?;
+    Ok(ready::cut_at(r, k, log, db, clog, frames))
 }
 
 pub fn begin_count(
@@ -102,11 +88,11 @@ pub fn begin_count(
     db: &[u8],
     clog: &[u8],
     frames: &[u8],
-) -> Counted
-    ensures { result ≡ counted_for 4096 (Begin id) s log.now db.now clog.now frames.now }
+) -> Result<usize, Refusal>
+    ensures { counted result ≡ counted_for 4096 (Begin id) s log.now db.now clog.now frames.now }
 {
-    let r = ready_begin(s, id, log, db, clog, frames);
-    ready::count_of(r)
+    let r = ready_begin(s, id, log, db, clog, frames)?;
+    Ok(ready::count_of(r))
 }
 
 pub fn begin_told(
@@ -117,62 +103,47 @@ pub fn begin_told(
     db: &[u8],
     clog: &[u8],
     frames: &[u8],
-) -> Told
+) -> Result<Option<Telling>, Refusal>
     ensures { told_by result ≡ told_for 4096 k (Begin id) s log.now db.now clog.now frames.now }
 {
-    let r = ready_begin(s, id, log, db, clog, frames);
-    ready::told_at(r, k)
+    let r = ready_begin(s, id, log, db, clog, frames)?;
+    Ok(ready::told_at(r, k))
 }
 
 // ---- flush
 
 // Inside a transaction a flush only marks its page.
-fn marked(s: Store, page: u32) -> Ready
-    ensures { result ≡ marked_as s page }
+fn marked(s: Store, page: u32) -> Result<Ready, Refusal>
+    ensures { ready_of s result ≡ marked_as s page }
 {
-    let old = s.held;
-    let slot = old.slot;
-    let touched = old.touched;
-    let more = frames::mark(touched, page);
-    if more.number != numbers::ACCEPTED {
-        return ready::nothing(more.number, s);
-    }
-    let now_touched = more.touched;
-    let held = Held {
-        slot,
-        touched: now_touched,
-    };
-    let u = Store { held, ..s };
-    ready::nothing(numbers::ACCEPTED, u)
+    let touched = frames::mark(s.held.touched, page)?;
+    let held = Held { touched, ..s.held };
+    Ok(ready::nothing(Store { held, ..s }))
 }
 
-fn ready_flush(s: Store, page: u32, log: &[u8], db: &[u8], clog: &[u8], frames: &[u8]) -> Ready
-    ensures { readied 4096 result log.now db.now clog.now frames.now ≡ ready_for 4096 (Flush page) s log.now db.now clog.now frames.now }
+fn ready_flush(
+    s: Store,
+    page: u32,
+    log: &[u8],
+    db: &[u8],
+    clog: &[u8],
+    frames: &[u8],
+) -> Result<Ready, Refusal>
+    ensures { readied 4096 (ready_of s result) log.now db.now clog.now frames.now ≡ ready_for 4096 (Flush page) s log.now db.now clog.now frames.now }
 {
-    let no = form::front_no(s, log, db, clog, frames);
-    if no != numbers::ACCEPTED {
-        return ready::nothing(no, s);
-    }
+    form::check_front(s, log, db, clog, frames)?;
     if numbers::NO_PAGE <= page {
-        return ready::nothing(numbers::BAD_PAGE, s);
+        return Err(Refusal::BadPage);
     }
-    let held = s.held;
-    let slot = held.slot;
-    if form::is_installed(slot) {
+    if form::is_installed(s.held.slot) {
         return marked(s, page);
     }
-    let f = s.frames;
-    let place = frames::find(f, page);
-    let Place::At(at) = place else {
-        return ready::nothing(numbers::ACCEPTED, s);
+    let Some(at) = frames::find(s.frames, page) else {
+        return Ok(ready::nothing(s));
     };
     let plan = plans::flush_plan(page, at);
-    let lens = s.lens;
-    let short = stores::room_no(plan, lens, log, db, clog, frames);
-    if short != numbers::ACCEPTED {
-        return ready::nothing(short, s);
-    }
-    ready::plain_call(plan, s)
+    stores::check_room(plan, s.lens, log, db, clog, frames)?;
+    Ok(ready::plain_call(plan, s))
 }
 
 // Inside a transaction the page is marked touched; outside, a resident page is logged, then written.
@@ -183,11 +154,11 @@ pub fn flush(
     db: &mut [u8],
     clog: &mut [u8],
     frames: &mut [u8],
-) -> Changed
-    ensures { outcome result log.new db.new clog.new frames.new ≡ called 4096 (Flush page) s log.old db.old clog.old frames.old }
+) -> Result<Store, Refusal>
+    ensures { outcome (changed s result) log.new db.new clog.new frames.new ≡ called 4096 (Flush page) s log.old db.old clog.old frames.old }
 {
-    let r = ready_flush(s, page, &log[..], &db[..], &clog[..], &frames[..]);
-    ready::carry_out(r, log, db, clog, frames)
+    let r = ready_flush(s, page, &log[..], &db[..], &clog[..], &frames[..])?;
+    Ok(ready::carry_out(r, log, db, clog, frames))
 }
 
 pub fn flush_to(
@@ -198,11 +169,11 @@ pub fn flush_to(
     db: &mut [u8],
     clog: &mut [u8],
     frames: &[u8],
-) -> Cut
-    ensures { cut_of result log.new db.new clog.new ≡ called_to 4096 k (Flush page) s log.old db.old clog.old frames.now }
+) -> Result<Lens, Refusal>
+    ensures { cut_of (cut s.lens result) log.new db.new clog.new ≡ called_to 4096 k (Flush page) s log.old db.old clog.old frames.now }
 {
-    let r = ready_flush(s, page, &log[..], &db[..], &clog[..], frames);
-    ready::cut_at(r, k, log, db, clog, frames)
+    let r = ready_flush(s, page, &log[..], &db[..], &clog[..], frames)?;
+    Ok(ready::cut_at(r, k, log, db, clog, frames))
 }
 
 pub fn flush_count(
@@ -212,11 +183,11 @@ pub fn flush_count(
     db: &[u8],
     clog: &[u8],
     frames: &[u8],
-) -> Counted
-    ensures { result ≡ counted_for 4096 (Flush page) s log.now db.now clog.now frames.now }
+) -> Result<usize, Refusal>
+    ensures { counted result ≡ counted_for 4096 (Flush page) s log.now db.now clog.now frames.now }
 {
-    let r = ready_flush(s, page, log, db, clog, frames);
-    ready::count_of(r)
+    let r = ready_flush(s, page, log, db, clog, frames)?;
+    Ok(ready::count_of(r))
 }
 
 pub fn flush_told(
@@ -227,9 +198,9 @@ pub fn flush_told(
     db: &[u8],
     clog: &[u8],
     frames: &[u8],
-) -> Told
+) -> Result<Option<Telling>, Refusal>
     ensures { told_by result ≡ told_for 4096 k (Flush page) s log.now db.now clog.now frames.now }
 {
-    let r = ready_flush(s, page, log, db, clog, frames);
-    ready::told_at(r, k)
+    let r = ready_flush(s, page, log, db, clog, frames)?;
+    Ok(ready::told_at(r, k))
 }

@@ -7,24 +7,18 @@
 ghost use Rattle.std.specs.Prelude.{◌≡◌, map, cond, ◌+◌, ◌-◌, ◌/◌, ◌^◌, ◌<◌, ◌≤◌, length, take, drop, get_or, eqb};
 ghost use Rattle.std.proofs.lemmas.List.Edits.{sets};
 ghost use Rattle.fields.specs.Files.{file_of};
+ghost use Rattle.fields.specs.Refusals.{number_in};
 ghost use Rattle.fields.specs.Answers.{outcome};
 ghost use Rattle.table.specs.Entries.{empty_table, laid};
 ghost use Rattle.clog.specs.Slots.{code_of, bits_of, with_bits, high_bits, slot_of, cleared, span_below, entry_of, entries_in, in_use, loaded_status, settled_code, settled_byte};
-ghost use Rattle.clog.specs.Calls.{unfit, reset_no, record_no, compact_no, load_no, opened, wiped, recorded, compacted, load_outcome, loaded, seen, seen_of};
+ghost use Rattle.clog.specs.Calls.{unfit, reset_no, record_no, compact_no, load_no, opened, wiped, recorded, compacted, loaded_of, load_outcome, loaded, seen, seen_of};
 ghost use Rattle.clog.specs.Inside.{push_all, stride_of};
 
-use fields::{Answer, CommitTime, TransactionId, numbers};
+use fields::{CommitTime, Refusal, TransactionId, numbers};
 use table::{Entry, Status, Table};
 
 // The most entries of a table.
 const TABLE_LIMIT: usize = 256;
-
-// What a load answers, and the table: empty where it is refused.
-#[derive(Clone, Copy)]
-pub struct Loaded {
-    pub answer: Answer,
-    pub table: Table,
-}
 
 // ---- the four slots of a byte: by division and remainder, each case with its own literals
 
@@ -32,16 +26,12 @@ fn bits(b: u8, m: u64) -> u8
     requires { m < 4 }
     ensures { result ≡ bits_of m b }
 {
-    if m == 0 {
-        return b % 4;
+    match m {
+        0 => b % 4,
+        1 => b / 4 % 4,
+        2 => b / 16 % 4,
+        _ => b / 64 % 4,
     }
-    if m == 1 {
-        return b / 4 % 4;
-    }
-    if m == 2 {
-        return b / 16 % 4;
-    }
-    b / 64 % 4
 }
 
 // The byte with its slot m set to c.
@@ -49,35 +39,25 @@ fn with_bits(b: u8, m: u64, c: u8) -> u8
     requires { (m < 4) × (c < 4) }
     ensures { result ≡ with_bits m c b }
 {
-    if m == 0 {
-        return b / 4 * 4 + c;
+    match m {
+        0 => b / 4 * 4 + c,
+        1 => b / 16 * 16 + c * 4 + b % 4,
+        2 => b / 64 * 64 + c * 16 + b % 16,
+        _ => c * 64 + b % 64,
     }
-    if m == 1 {
-        return b / 16 * 16 + c * 4 + b % 4;
-    }
-    if m == 2 {
-        return b / 64 * 64 + c * 16 + b % 16;
-    }
-    c * 64 + b % 64
 }
 
 // The byte with its slots under w cleared.
 fn high_bits(b: u8, w: u64) -> u8
     ensures { result ≡ high_bits w b }
 {
-    if w == 0 {
-        return b;
+    match w {
+        0 => b,
+        1 => b / 4 * 4,
+        2 => b / 16 * 16,
+        3 => b / 64 * 64,
+        _ => 0,
     }
-    if w == 1 {
-        return b / 4 * 4;
-    }
-    if w == 2 {
-        return b / 16 * 16;
-    }
-    if w == 3 {
-        return b / 64 * 64;
-    }
-    0
 }
 
 fn settled_code(c: u8) -> u8
@@ -88,7 +68,7 @@ fn settled_code(c: u8) -> u8
 }
 
 // The byte with Active become Aborted.
-fn settled_byte(b: u8) -> u8
+pub fn settled_byte(b: u8) -> u8
     ensures { result ≡ settled_byte b }
 {
     let c0 = settled_code(b % 4);
@@ -114,108 +94,102 @@ fn code_of(s: Status) -> u8
 pub fn bad_length(least: usize, size: usize, len: usize) -> bool
     ensures { result ≡ unfit least size len }
 {
-    if fields::is_unfit(numbers::CLOG_LIMIT, size, len) {
-        return true;
-    }
-    len < least
+    fields::is_unfit(numbers::CLOG_LIMIT, size, len) || len < least
 }
 
-fn reset_no(size: usize, len: usize) -> u8
-    ensures { result ≡ reset_no size len }
+fn check_reset(size: usize, len: usize) -> Result<(), Refusal>
+    ensures { number_in result ≡ reset_no size len }
 {
     if bad_length(0, size, len) {
-        return numbers::UNFIT;
+        return Err(Refusal::Unfit);
     }
     if size < numbers::HEADER {
-        return numbers::CLOG_FULL;
+        return Err(Refusal::ClogFull);
     }
-    numbers::ACCEPTED
+    Ok(())
 }
 
 // The byte of an id is compared with the room after the header: a sum with the header could pass the largest usize.
-fn record_no(h: usize, base: u64, id: u64, size: usize, len: usize) -> u8
-    ensures { result ≡ record_no h base id size len }
+fn check_record(h: usize, base: u64, id: u64, size: usize, len: usize) -> Result<(), Refusal>
+    ensures { number_in result ≡ record_no h base id size len }
 {
     if bad_length(h, size, len) {
-        return numbers::UNFIT;
+        return Err(Refusal::Unfit);
     }
     if id < base {
-        return numbers::ID_BELOW_BASE;
+        return Err(Refusal::IdBelowBase);
     }
     let byte = ((id - base) / 4) as usize;
     if size - h <= byte {
-        return numbers::CLOG_FULL;
+        return Err(Refusal::ClogFull);
     }
-    numbers::ACCEPTED
+    Ok(())
 }
 
-fn compact_no(h: usize, size: usize, len: usize) -> u8
-    ensures { result ≡ compact_no h size len }
+fn check_compact(h: usize, size: usize, len: usize) -> Result<(), Refusal>
+    ensures { number_in result ≡ compact_no h size len }
 {
     if bad_length(h, size, len) {
-        return numbers::UNFIT;
+        return Err(Refusal::Unfit);
     }
-    numbers::ACCEPTED
+    Ok(())
 }
 
-fn load_no(clog: &[u8], len: usize, h: usize) -> u8
-    ensures { result ≡ load_no 256 h (file_of clog.now len) }
+fn check_load(clog: &[u8], len: usize, h: usize) -> Result<(), Refusal>
+    ensures { number_in result ≡ load_no 256 h (file_of clog.now len) }
 {
     if bad_length(h, clog.len(), len) {
-        return numbers::UNFIT;
+        return Err(Refusal::Unfit);
     }
     let n = count_in(&clog[..len], h);
     if TABLE_LIMIT < n {
-        return numbers::TABLE_FULL;
+        return Err(Refusal::TableFull);
     }
-    numbers::ACCEPTED
+    Ok(())
 }
 
 // ---- open and reset
 
-pub fn reset(clog: &mut [u8], len: usize) -> Answer
+pub fn reset(clog: &mut [u8], len: usize) -> Result<usize, Refusal>
     ensures { outcome result clog.new ≡ wiped (file_of clog.old len) }
 {
-    let no = reset_no(clog.len(), len);
-    if no != numbers::ACCEPTED {
-        return Answer::Refused(no);
-    }
+    check_reset(clog.len(), len)?;
     fields::lay(clog, 0, b"AEROCLG1");
-    Answer::Accepted(numbers::HEADER)
+    Ok(numbers::HEADER)
 }
 
-pub fn open(clog: &mut [u8], len: usize) -> Answer
+pub fn open(clog: &mut [u8], len: usize) -> Result<usize, Refusal>
     ensures { outcome result clog.new ≡ opened (file_of clog.old len) }
 {
-    let no = reset_no(clog.len(), len);
-    if no != numbers::ACCEPTED {
-        return Answer::Refused(no);
-    }
+    check_reset(clog.len(), len)?;
     let valid = fields::begins(b"AEROCLG1", &clog[..len]);
     if valid {
-        return Answer::Accepted(len);
+        return Ok(len);
     }
     fields::lay(clog, 0, b"AEROCLG1");
-    Answer::Accepted(numbers::HEADER)
+    Ok(numbers::HEADER)
 }
 
 // ---- record
 
 // Zeros go from the length through the slot's byte: a byte past the length counts as 0, whatever the buffer has there.
-fn put_in(clog: &mut [u8], len: usize, h: usize, base: u64, id: u64, code: u8) -> Answer
+fn put_in(
+    clog: &mut [u8],
+    len: usize,
+    h: usize,
+    base: u64,
+    id: u64,
+    code: u8,
+) -> Result<usize, Refusal>
     requires { code < 4 }
     ensures { outcome result clog.new ≡ recorded h base (file_of clog.old len) id code }
 {
-    let no = record_no(h, base, id, clog.len(), len);
-    if no != numbers::ACCEPTED {
-        return Answer::Refused(no);
-    }
+    check_record(h, base, id, clog.len(), len)?;
     let k = id - base;
     let at = h + (k / 4) as usize;
     fields::zero_fill(clog, len, at + 1);
-    let b = with_bits(clog[at], k % 4, code);
-    clog[at] = b;
-    Answer::Accepted(fields::larger(len, at + 1))
+    clog[at] = with_bits(clog[at], k % 4, code);
+    Ok(len.max(at + 1))
 }
 
 pub fn record_in(
@@ -225,14 +199,19 @@ pub fn record_in(
     base: u32,
     id: TransactionId,
     status: Status,
-) -> Answer
+) -> Result<usize, Refusal>
     ensures { outcome result clog.new ≡ recorded h base (file_of clog.old len) id.0 (code_of status) }
 {
     let code = code_of(status);
     put_in(clog, len, h, base as u64, id.0, code)
 }
 
-pub fn record(clog: &mut [u8], len: usize, id: TransactionId, status: Status) -> Answer
+pub fn record(
+    clog: &mut [u8],
+    len: usize,
+    id: TransactionId,
+    status: Status,
+) -> Result<usize, Refusal>
     ensures { outcome result clog.new ≡ recorded 8 0 (file_of clog.old len) id.0 (code_of status) }
 {
     record_in(clog, len, numbers::HEADER, 0, id, status)
@@ -240,76 +219,50 @@ pub fn record(clog: &mut [u8], len: usize, id: TransactionId, status: Status) ->
 
 // ---- compact
 
-// How many of n bytes have a slot under w. Not by w + 3, which could pass the largest u64.
-fn span(n: usize, w: u64) -> usize
-    ensures { result ≡ span_below n w }
-{
-    let whole = (w / 4) as usize;
-    if n <= whole {
-        return n;
-    }
-    if w % 4 == 0 {
-        return whole;
-    }
-    whole + 1
-}
-
 // How many bytes after the header a compaction of a clog of that length rewrites.
 pub fn span_below(len: usize, below: TransactionId) -> usize
     ensures { result ≡ span_below (len - 8) below.0 }
 {
-    let n = if len < numbers::HEADER {
-        0
-    } else {
-        len - numbers::HEADER
-    };
-    span(n, below.0)
+    len.saturating_sub(numbers::HEADER)
+        .min(below.0.div_ceil(4) as usize)
 }
 
-// The slots of the next byte are four further on.
-fn less4(w: u64) -> u64
-    ensures { result ≡ w - 4 }
+// The slots under w of the bytes become 0. Bytes with no such slot are not visited; the slots of the next byte are four further on.
+fn clear(body: &mut [u8], w: u64)
+    ensures { body.new ≡ cleared w body.old }
 {
-    if w < 4 { 0 } else { w - 4 }
-}
-
-// The slots under w of the bytes from h on become 0. Bytes with no such slot are not visited.
-fn clear(clog: &mut [u8], len: usize, h: usize, w: u64)
-    requires { (h ≤ len) × (len ≤ length clog.old) }
-    ensures { clog.new ≡ sets clog.old h (cleared w (drop h (take len clog.old))) }
-{
-    let end = h + span(len - h, w);
-    let mut i = h;
     let mut left = w;
-    while i < end {
-        let b = high_bits(clog[i], left);
-        clog[i] = b;
-        left = less4(left);
-        i += 1;
+    for b in body.iter_mut() {
+        if left == 0 {
+            return;
+        }
+        *b = high_bits(*b, left);
+        left = left.saturating_sub(4);
     }
 }
 
 // Ids below the base have no slot here: there is nothing to clear for them.
-pub fn compact_in(clog: &mut [u8], len: usize, h: usize, base: u32, below: TransactionId) -> Answer
+pub fn compact_in(
+    clog: &mut [u8],
+    len: usize,
+    h: usize,
+    base: u32,
+    below: TransactionId,
+) -> Result<usize, Refusal>
     ensures { outcome result clog.new ≡ compacted h base (file_of clog.old len) below.0 }
 {
-    let no = compact_no(h, clog.len(), len);
-    if no != numbers::ACCEPTED {
-        return Answer::Refused(no);
-    }
-    let first = base as u64;
-    let w = if below.0 < first { 0 } else { below.0 - first };
-    clear(clog, len, h, w);
-    Answer::Accepted(len)
+    check_compact(h, clog.len(), len)?;
+    clear(&mut clog[h..len], below.0.saturating_sub(base as u64));
+    Ok(len)
 }
 
-pub fn compact(clog: &mut [u8], len: usize, below: TransactionId) -> Answer
+pub fn compact(clog: &mut [u8], len: usize, below: TransactionId) -> Result<usize, Refusal>
     ensures { outcome result clog.new ≡ compacted 8 0 (file_of clog.old len) below.0 }
 {
     compact_in(clog, len, numbers::HEADER, 0, below)
 }
 
-// ---- load: count, list, settle, each its own loop with no branch
+// ---- load: count, list, settle, each its own loop with no branch. An accepted load's length is the one that it was given.
 
 // The slot k after a header of h bytes.
 fn slot_at(s: &[u8], h: usize, k: usize) -> u8
@@ -346,6 +299,7 @@ fn count_in(s: &[u8], h: usize) -> usize
     let end = 4 * (s.len() - h);
     let mut n = 0;
     let mut k = 0;
+    // No `for`: each turn goes on by what it has read.
     while k < end {
         let c = slot_at(s, h, k);
         n += one_if(c);
@@ -354,13 +308,14 @@ fn count_in(s: &[u8], h: usize) -> usize
     n
 }
 
-fn loaded_status(c: u8) -> Status
+// The status of a slot that is not 0: a load knows no time, and takes Active for Aborted.
+pub fn loaded_status(c: u8) -> Status
     ensures { result ≡ loaded_status c }
 {
-    if c == 2 {
-        return Status::Committed(CommitTime(0));
+    match c {
+        2 => Status::Committed(CommitTime(0)),
+        _ => Status::Aborted,
     }
-    Status::Aborted
 }
 
 // The table with the entry of a slot after its last, if the slot is not 0.
@@ -372,13 +327,11 @@ fn push_slot(t: Table, id: u64, c: u8) -> Table
         return t;
     }
     let n = t.count;
-    let status = loaded_status(c);
-    let e = Entry {
-        id: TransactionId(id),
-        status: status,
-    };
     let mut a = t.entries;
-    a[n] = e;
+    a[n] = Entry {
+        id: TransactionId(id),
+        status: loaded_status(c),
+    };
     Table {
         entries: a,
         count: n + 1,
@@ -393,6 +346,7 @@ fn list_in(s: &[u8], h: usize, base: u64) -> Table
     let end = 4 * (s.len() - h);
     let mut t = table::empty();
     let mut k = 0;
+    // No `for`: each turn goes on by what it has read.
     while k < end {
         let c = slot_at(s, h, k);
         t = push_slot(t, base + k as u64, c);
@@ -401,57 +355,35 @@ fn list_in(s: &[u8], h: usize, base: u64) -> Table
     t
 }
 
-// Active becomes Aborted in the bytes from h on.
-fn settle(clog: &mut [u8], len: usize, h: usize)
-    requires { len ≤ length clog.old }
-    ensures { clog.new ≡ sets clog.old h (map settled_byte (drop h (take len clog.old))) }
+// Active becomes Aborted in the bytes.
+fn settle(body: &mut [u8])
+    ensures { body.new ≡ map settled_byte body.old }
 {
-    let mut i = h;
-    while i < len {
-        let b = settled_byte(clog[i]);
-        clog[i] = b;
-        i += 1;
+    for b in body.iter_mut() {
+        *b = settled_byte(*b);
     }
 }
 
-pub fn load_in(clog: &mut [u8], len: usize, h: usize, base: u32) -> Loaded
-    ensures { load_outcome result clog.new ≡ loaded 256 h base (file_of clog.old len) }
+pub fn load_in(clog: &mut [u8], len: usize, h: usize, base: u32) -> Result<Table, Refusal>
+    ensures { load_outcome (loaded_of len result) clog.new ≡ loaded 256 h base (file_of clog.old len) }
 {
-    let no = load_no(&clog[..], len, h);
-    if no != numbers::ACCEPTED {
-        return Loaded {
-            answer: Answer::Refused(no),
-            table: table::empty(),
-        };
-    }
+    check_load(clog, len, h)?;
     let t = list_in(&clog[..len], h, base as u64);
-    settle(clog, len, h);
-    Loaded {
-        answer: Answer::Accepted(len),
-        table: t,
-    }
+    settle(&mut clog[h..len]);
+    Ok(t)
 }
 
-pub fn load(clog: &mut [u8], len: usize) -> Loaded
-    ensures { load_outcome result clog.new ≡ loaded 256 8 0 (file_of clog.old len) }
+pub fn load(clog: &mut [u8], len: usize) -> Result<Table, Refusal>
+    ensures { load_outcome (loaded_of len result) clog.new ≡ loaded 256 8 0 (file_of clog.old len) }
 {
     load_in(clog, len, numbers::HEADER, 0)
 }
 
-// What load would answer, and its table, with no byte changed.
-pub fn read(clog: &[u8], len: usize) -> Loaded
-    ensures { seen result ≡ seen_of (loaded 256 8 0 (file_of clog.now len)) }
+// What load would give, with no byte changed.
+pub fn read(clog: &[u8], len: usize) -> Result<Table, Refusal>
+    ensures { seen (loaded_of len result) ≡ seen_of (loaded 256 8 0 (file_of clog.now len)) }
 {
-    let no = load_no(clog, len, numbers::HEADER);
-    if no != numbers::ACCEPTED {
-        return Loaded {
-            answer: Answer::Refused(no),
-            table: table::empty(),
-        };
-    }
+    check_load(clog, len, numbers::HEADER)?;
     let t = list_in(&clog[..len], numbers::HEADER, 0);
-    Loaded {
-        answer: Answer::Accepted(len),
-        table: t,
-    }
+    Ok(t)
 }

@@ -11,10 +11,8 @@ use Rattle.fields.specs.declared.CommitTime.{CommitTime}
 use Rattle.meta.specs.declared.Counters.{Counters}
 use Rattle.table.specs.declared.Status.TheVariants.{Active, Committed}
 use Rattle.table.specs.declared.Entry.{Entry}
-use Rattle.table.specs.declared.Inserted.{Inserted}
-use Rattle.table.specs.Entries.{inserted}
-use Rattle.rows.specs.declared.Counted.{Counted}
-use Rattle.rows.specs.Rows.{row_kept, set_row}
+use Rattle.table.specs.Entries.{Inserted, inserted}
+use Rattle.rows.specs.Rows.{set_row, Counted}
 use Rattle.rows.proofs.Laws.{kept_same, set-is-inserted}
 use Rattle.frames.specs.Pages.{seated}
 use Rattle.seats.specs.Seats.{frames_in}
@@ -38,12 +36,10 @@ use Rattle.ready.specs.Inside.{ready_for}
 use Rattle.settle.specs.Inside.{ended_store, slot_for, sealed_store, sealed_as}
 use Rattle.acts.specs.declared.Change.{Change}
 use Rattle.acts.specs.declared.Change.TheVariants.{Same, Set}
-use Rattle.acts.specs.declared.Made.{Made}
-use Rattle.acts.specs.Made.{rows_after, touched_after, resident_after, counted_head, after_in, bare_made, meta_made, made_in}
+use Rattle.acts.specs.Made.{Made, rows_after, touched_after, resident_after, counted_head, after_in, bare_made, meta_made, made_in}
 use Rattle.acts.specs.Inside.{ready_lent}
 use Rattle.acts.proofs.Laws.{made_none, laid-after}
-use Rattle.ends.specs.declared.Ending.{Ending}
-use Rattle.ends.specs.Inside.{counters_in, ended_head, commit_ending, sealed_head, sealed_made}
+use Rattle.ends.specs.Inside.{Ending, counters_in, ended_head, commit_ending, sealed_head, sealed_made}
 use Rattle.ends.proofs.Sealed.{sealed-made}
 use Rattle.settle.proofs.Committed.{commit-none, commit-out}
 
@@ -135,10 +131,10 @@ module _ (P : ℕ) (s : Lent) (z : Fit s) (log db clog frames : List ℕ) (fine 
     commit-made x e i = whole x e i
 
 -- the code's record
-pub commit-ending : (h : Head) (rows : List (List ℕ)) (resident touched : List ℕ) (c : Counters) (plan : Plan) (x : Counted) (time : CommitTime) (w : Head) (back : Picked) →
+pub commit-ending : (h : Head) (rows : List (List ℕ)) (resident touched : List ℕ) (c : Counters) (plan : Plan) (full : ℕ) (time : CommitTime) (w : Head) (back : Picked) →
     c ≡ counters_in h → plan ≡ plan_of kind.Commit h.id c.time (gathered All [] touched h.touched resident h.resident) (timed c) →
-    x ≡ row_kept (set_row 256 rows h.entries (record { id = h.id; status = Active })) → time ≡ next_time h.time → w ≡ ended_head h h.pages time →
+    full ≡ (set_row 256 rows h.entries (record { id = h.id; status = Active })).number → time ≡ next_time h.time → w ≡ ended_head h h.pages time →
     back ≡ picked_of 64 [] →
-    ◌≡◌ {A = Ending} (record { head = w; full = x.number; change = Set h.id (Committed h.time); plan = plan; back = back }) (commit_ending h rows resident touched)
+    ◌≡◌ {A = Ending} (record { head = w; full = full; change = Set h.id (Committed h.time); plan = plan; back = back }) (commit_ending h rows resident touched)
 unfolding commit_ending
-commit-ending h rows resident touched c plan x time w back a b d e f g = rw (f, e, b, a, d, g)
+commit-ending h rows resident touched c plan full time w back a b d e f g = rw (f, e, b, a, d, g)

@@ -11,10 +11,8 @@ use Rattle.fields.specs.declared.TransactionId.{TransactionId}
 use Rattle.meta.specs.declared.Counters.{Counters}
 use Rattle.table.specs.declared.Status.TheVariants.{Active, Aborted}
 use Rattle.table.specs.declared.Entry.{Entry}
-use Rattle.table.specs.declared.Inserted.{Inserted}
-use Rattle.table.specs.Entries.{inserted}
-use Rattle.rows.specs.declared.Counted.{Counted}
-use Rattle.rows.specs.Rows.{row_kept, set_row}
+use Rattle.table.specs.Entries.{Inserted, inserted}
+use Rattle.rows.specs.Rows.{set_row, Counted}
 use Rattle.rows.proofs.Laws.{kept_same, set-is-inserted}
 use Rattle.frames.specs.Pages.{any_bad, seated}
 use Rattle.seats.specs.Seats.{frames_in}
@@ -38,12 +36,10 @@ use Rattle.ready.specs.Inside.{ready_for}
 use Rattle.settle.specs.Inside.{ended_store, raised_by, slot_for, sealed_store, sealed_as}
 use Rattle.acts.specs.declared.Change.{Change}
 use Rattle.acts.specs.declared.Change.TheVariants.{Same, Set}
-use Rattle.acts.specs.declared.Made.{Made}
-use Rattle.acts.specs.Made.{rows_after, touched_after, resident_after, counted_head, after_in, bare_made, meta_made, made_in}
+use Rattle.acts.specs.Made.{Made, rows_after, touched_after, resident_after, counted_head, after_in, bare_made, meta_made, made_in}
 use Rattle.acts.specs.Inside.{ready_lent}
 use Rattle.acts.proofs.Laws.{made-no, made_none, laid-after}
-use Rattle.ends.specs.declared.Ending.{Ending}
-use Rattle.ends.specs.Inside.{counters_in, ended_head, rollback_ending, sealed_head, sealed_made}
+use Rattle.ends.specs.Inside.{Ending, counters_in, ended_head, rollback_ending, sealed_head, sealed_made}
 use Rattle.ends.proofs.Sealed.{sealed-made}
 use Rattle.settle.proofs.RolledBack.{rollback-10, rollback-none, rollback-out}
 
@@ -144,10 +140,10 @@ module _ (P : ℕ) (s : Lent) (z : Fit s) (list log db clog frames : List ℕ) (
       rollback-made x e i = whole x e i
 
 -- the code's record
-pub rollback-ending : (list : List ℕ) (h : Head) (rows : List (List ℕ)) (resident touched : List ℕ) (c : Counters) (plan : Plan) (back : Picked) (x : Counted) (n : ℕ) (w : Head) →
+pub rollback-ending : (list : List ℕ) (h : Head) (rows : List (List ℕ)) (resident touched : List ℕ) (c : Counters) (plan : Plan) (back : Picked) (full n : ℕ) (w : Head) →
     c ≡ counters_in h → plan ≡ plan_of kind.Rollback h.id no_time (gathered Data list touched h.touched resident h.resident) c →
     back ≡ picked_of 64 (gathered Catalog list touched h.touched resident h.resident) →
-    x ≡ row_kept (set_row 256 rows h.entries (record { id = h.id; status = Active })) → n ≡ raised_by back h.pages → w ≡ ended_head h n h.time →
-    ◌≡◌ {A = Ending} (record { head = w; full = x.number; change = Set h.id Aborted; plan = plan; back = back }) (rollback_ending list h rows resident touched)
+    full ≡ (set_row 256 rows h.entries (record { id = h.id; status = Active })).number → n ≡ raised_by back h.pages → w ≡ ended_head h n h.time →
+    ◌≡◌ {A = Ending} (record { head = w; full = full; change = Set h.id Aborted; plan = plan; back = back }) (rollback_ending list h rows resident touched)
 unfolding rollback_ending
-rollback-ending list h rows resident touched c plan back x n w a b d e f g = rw (g, f, b, a, d, e)
+rollback-ending list h rows resident touched c plan back full n w a b d e f g = rw (g, f, b, a, d, e)

@@ -5,10 +5,11 @@ use mathlib.Core.Path.{◌≡◌, refl, sym, ap, ◌∙◌}
 use mathlib.Core.List.{List}
 use mathlib.Core.Bool.{false}
 use lib.ListN.{length}
-use Rattle.frames.specs.declared.Seated.{Seated}
-use Rattle.frames.specs.Pages.{seated}
-use Rattle.seats.specs.declared.Kept.{Kept}
-use Rattle.seats.specs.Seats.{frames_in, seat_kept}
+use Rattle.fields.specs.declared.refusal.Refusal.{Refusal}
+use Rattle.fields.specs.Refusals.{number_of}
+use Rattle.ready.proofs.Prepared.{no-zero}
+use Rattle.frames.specs.Pages.{Seated, seated}
+use Rattle.seats.specs.Seats.{frames_in, seat_kept, Kept}
 use Rattle.world.specs.World.{files_of}
 use Rattle.world.specs.Calls.{Call}
 use Rattle.stores.specs.Plans.{meant}
@@ -16,17 +17,14 @@ use Rattle.stores.specs.Room.{number_for}
 use Rattle.form.specs.declared.Store.{Store}
 use Rattle.lent.specs.declared.Head.{Head}
 use Rattle.lent.specs.Lent.{Lent, store_of, odd, laid_lent}
-use Rattle.ready.specs.declared.Ready.{Ready}
-use Rattle.ready.specs.Ready.{readied, idle, with_meta}
+use Rattle.ready.specs.Ready.{Ready, readied, idle, with_meta}
 use Rattle.ready.specs.Inside.{ready_for}
 use Rattle.settle.specs.Inside.{slot_for, sealed_store, sealed_as}
 use Rattle.acts.specs.declared.Change.TheVariants.{Same}
-use Rattle.acts.specs.declared.Made.{Made}
-use Rattle.acts.specs.Made.{after_in, ready_in, bare_made, meta_made, made_in}
+use Rattle.acts.specs.Made.{Made, after_in, ready_in, bare_made, meta_made, made_in}
 use Rattle.acts.specs.Inside.{ready_lent}
 use Rattle.acts.proofs.Laws.{made-no, made-out}
-use Rattle.ends.specs.declared.Ending.{Ending}
-use Rattle.ends.specs.Inside.{sealed_head, unless, sealed_made}
+use Rattle.ends.specs.Inside.{Ending, sealed_head, unless, sealed_made}
 
 -- ---- a refusal on the way
 
@@ -66,11 +64,11 @@ module _ (P : ℕ) (h : Head) (resident : List ℕ) (x : Ending) (log db clog fr
       number_is : g.number ≡ seat_of.number
       number_is = ap (λ (k : Kept). k.number) sat
 
-      pub seal-seat : m ≡ bare_made g.number Same h → (g.number ≡ 0 → ⊥) → m ≡ sealed_made P h resident x log db clog frames
+      pub seal-seat : (r : Refusal) → m ≡ bare_made (number_of r) Same h → g.number ≡ number_of r → m ≡ sealed_made P h resident x log db clog frames
       unfolding sealed_made
-      seal-seat i some =
+      seal-seat r i e =
           let rest = unless seat_of.number h end in
-          let step = unless-no h end m g.number some i ∙ ap (λ (k : ℕ). unless k h end) number_is in
+          let step = unless-no h end m (number_of r) (no-zero r) i ∙ ap (λ (k : ℕ). unless k h end) (sym e ∙ number_is) in
           fits (unless x.full h rest) (unless-yes h rest m x.full fine step)
 
       pub seal-out : (slot pages : ℕ) → g.number ≡ 0 → slot ≡ slot_for 0 (frames_in resident h.resident) → pages ≡ max x.head.pages 1 →

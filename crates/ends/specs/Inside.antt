@@ -1,6 +1,7 @@
 -- The calls that end with page 0, on a store that stands where it is lent: the head that each leaves before page 0 is made resident, and how it is made ready, in the
 -- code's terms. P is the page size. Assumes nothing.
 use Rattle.std.specs.Prelude.{ℕ, max, List, [], length}
+use Rattle.fields.specs.Refusals.{number_in}
 use Rattle.fields.specs.Answers.{no_id, no_time}
 use Rattle.fields.specs.declared.TransactionId.{TransactionId}
 use Rattle.fields.specs.declared.CommitTime.{CommitTime}
@@ -12,8 +13,10 @@ use Rattle.seats.specs.Seats.{frames_in}
 use Rattle.world.specs.World.{files_of}
 use Rattle.world.specs.Calls.{next_time}
 use Rattle.world.specs.Run.{decided}
+use Rattle.picks.specs.declared.Picked.{Picked}
 use Rattle.picks.specs.declared.Which.TheVariants.{All, Data, Catalog}
 use Rattle.picks.specs.Picks.{picked_of}
+use Rattle.stores.specs.declared.Plan.{Plan}
 use Rattle.stores.specs.declared.Kind.TheVariants as kind
 use Rattle.stores.specs.Plans.{meant}
 use Rattle.stores.specs.Room.{number_for}
@@ -21,14 +24,25 @@ use Rattle.plans.specs.Planned.{plan_of, timed, marked}
 use Rattle.gathers.specs.Gathered.{gathered}
 use Rattle.settle.specs.Inside.{raised_by, slot_for}
 use Rattle.lent.specs.declared.Head.{Head}
+use Rattle.acts.specs.declared.Change.{Change}
 use Rattle.acts.specs.declared.Change.TheVariants.{Same, Set}
-use Rattle.acts.specs.declared.Made.{Made}
-use Rattle.acts.specs.Made.{bare_made, meta_made}
-use Rattle.ends.specs.declared.Ending.{Ending}
+use Rattle.acts.specs.Made.{Made, bare_made, meta_made}
+use Rattle.ends.specs.declared.Ending as code
 
 -- the counters that page 0 gets
 abbrev pub counters_in : Head → Counters
 counters_in h = record { next = h.next; time = h.time; mark = h.mark }
+
+-- what such a call would do and leave, but for page 0: the head, the number that the table gives, the change, the stores, and the pages that get the file's bytes back
+pub record Ending : Type 0 where
+  pub head : Head
+  pub full : ℕ
+  pub change : Change
+  pub plan : Plan
+  pub back : Picked
+
+abbrev pub ending_of : code.Ending → Ending
+ending_of x = record { head = x.head; full = number_in x.full; change = x.change; plan = x.plan; back = x.back }
 
 -- ---- before page 0 is made resident
 

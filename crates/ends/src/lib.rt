@@ -3,34 +3,33 @@
 // byte of the buffers.
 #![tactic(auto)]
 
-ghost use Rattle.std.specs.Prelude.{◌≡◌, max};
+ghost use Rattle.std.specs.Prelude.{◌≡◌};
 ghost use Rattle.seats.specs.Seats.{frames_in};
 ghost use Rattle.world.specs.Calls.{Commit, Rollback, Advance};
-ghost use Rattle.stores.specs.Room.{cut_of};
+ghost use Rattle.stores.specs.Room.{cut, cut_of};
 ghost use Rattle.settle.specs.Inside.{past, raised_by, slot_for};
-ghost use Rattle.lent.specs.Lent.{lent, leaving, called_lent};
-ghost use Rattle.ready.specs.Ready.{told_by};
-ghost use Rattle.acts.specs.Made.{made_in};
+ghost use Rattle.lent.specs.Lent.{lent, replied, leaving, called_lent};
+ghost use Rattle.ready.specs.Ready.{counted, told_by};
+ghost use Rattle.acts.specs.Made.{made_of, made_in};
 ghost use Rattle.acts.specs.Partly.{cut_lent, counted_lent, told_lent};
 ghost use Rattle.acts.specs.Inside.{ready_lent};
-ghost use Rattle.ends.specs.Inside.{counters_in, ended_head, marked_head, advance_ending, commit_ending, rollback_ending, sealed_made};
+ghost use Rattle.ends.specs.Inside.{counters_in, ended_head, marked_head, ending_of, advance_ending, commit_ending, rollback_ending, sealed_made};
 
 use acts::{Change, Made};
-use fields::{CommitTime, TransactionId, numbers};
-use frames::Place;
-use lent::{Head, Reply};
+use fields::{CommitTime, Refusal, TransactionId, numbers};
+use lent::Head;
 use meta::Counters;
 use picks::{Picked, Which};
-use ready::{Counted, Told};
-use stores::{Cut, Plan};
+use stores::{Plan, Telling};
 use table::Status;
+use world::Lens;
 
-// What such a call would do and leave, but for page 0: the head, the number that the table gives, the change, the stores, and the pages that get the file's bytes
-// back.
+// What such a call would do and leave, but for page 0: the head, whether the table refuses the change, the change, the stores, and the pages that get the file's
+// bytes back.
 #[derive(Clone, Copy)]
 pub struct Ending {
     pub head: Head,
-    pub full: u8,
+    pub full: Result<(), Refusal>,
     pub change: Change,
     pub plan: Plan,
     pub back: Picked,
@@ -51,18 +50,7 @@ fn counters_of(h: Head) -> Counters
 fn slot_for(resident: &[u32; 64], n: usize, page: u32) -> usize
     ensures { result ≡ slot_for page (frames_in resident.now n) }
 {
-    let place = seats::find(resident, n, page);
-    match place {
-        Place::At(slot) => slot,
-        Place::Nowhere => n,
-    }
-}
-
-// The page count, raised past page 0.
-fn at_least_one(pages: u64) -> u64
-    ensures { result ≡ max pages 1 }
-{
-    if pages < 1 { 1 } else { pages }
+    seats::find(resident, n, page).unwrap_or(n)
 }
 
 // A call on a store with the head h, sealed with page 0. The tests stand here in their order, and before any change.
@@ -74,29 +62,17 @@ fn seal(
     db: &[u8],
     clog: &[u8],
     frames: &[u8],
-) -> Made
-    ensures { result ≡ sealed_made 4096 h resident.now x log.now db.now clog.now frames.now }
+) -> Result<Made, Refusal>
+    ensures { made_of h result ≡ sealed_made 4096 h resident.now (ending_of x) log.now db.now clog.now frames.now }
 {
-    let plan = x.plan;
-    let lens = h.lens;
-    let short = stores::room_no(plan, lens, log, db, clog, frames);
-    if short != numbers::ACCEPTED {
-        return acts::bare(short, Change::Same, h);
-    }
-    if x.full != numbers::ACCEPTED {
-        return acts::bare(x.full, Change::Same, h);
-    }
-    let seat = seats::seat_no(resident, h.resident, frames.len(), 0);
-    if seat.number != numbers::ACCEPTED {
-        return acts::bare(seat.number, Change::Same, h);
-    }
+    stores::check_room(x.plan, h.lens, log, db, clog, frames)?;
+    x.full?;
+    seats::check_seat(resident, h.resident, frames.len(), 0)?;
     let slot = slot_for(resident, h.resident, 0);
-    let u = x.head;
-    let pages = at_least_one(u.pages);
-    let after = Head { pages, ..u };
-    let change = x.change;
-    let back = x.back;
-    acts::meta_call(plan, back, slot, change, after)
+    // The page count is raised past page 0.
+    let pages = x.head.pages.max(1);
+    let after = Head { pages, ..x.head };
+    Ok(acts::meta_call(x.plan, x.back, slot, x.change, after))
 }
 
 // The transaction's place is emptied.
@@ -122,7 +98,7 @@ fn with_mark(h: Head, mark: TransactionId) -> Head
 }
 
 fn advance_ending(h: Head, mark: TransactionId) -> Ending
-    ensures { result ≡ advance_ending h mark }
+    ensures { ending_of result ≡ advance_ending h mark }
 {
     let m = counters_of(h);
     let plan = plans::advance_plan(mark, m);
@@ -130,7 +106,7 @@ fn advance_ending(h: Head, mark: TransactionId) -> Ending
     let back = picks::none();
     Ending {
         head,
-        full: numbers::ACCEPTED,
+        full: Ok(()),
         change: Change::Same,
         plan,
         back,
@@ -147,19 +123,12 @@ fn ready_advance(
     db: &[u8],
     clog: &[u8],
     frames: &[u8],
-) -> Made
-    ensures { made_in 4096 result rows.now resident.now touched.now log.now db.now clog.now frames.now ≡ ready_lent 4096 (Advance mark) (lent h rows.now resident.now touched.now) log.now db.now clog.now frames.now }
+) -> Result<Made, Refusal>
+    ensures { made_in 4096 (made_of h result) rows.now resident.now touched.now log.now db.now clog.now frames.now ≡ ready_lent 4096 (Advance mark) (lent h rows.now resident.now touched.now) log.now db.now clog.now frames.now }
 {
-    // Nothing reads these slices: with them the proof knows the arrays' sizes.
-    let a = &rows[..];
-    let b = &resident[..];
-    let c = &touched[..];
-    let no = lent::front_no(h, rows, resident, touched, log, db, clog, frames);
-    if no != numbers::ACCEPTED {
-        return acts::bare(no, Change::Same, h);
-    }
+    lent::check_front(h, rows, resident, touched, log, db, clog, frames)?;
     if mark.0 <= h.mark.0 {
-        return acts::bare(numbers::ACCEPTED, Change::Same, h);
+        return Ok(acts::bare(Change::Same, h));
     }
     let x = advance_ending(h, mark);
     seal(h, x, resident, log, db, clog, frames)
@@ -176,8 +145,8 @@ pub fn advance(
     db: &mut [u8],
     clog: &mut [u8],
     frames: &mut [u8],
-) -> Reply
-    ensures { leaving result.number (lent result.head rows.new resident.new touched.new) log.new db.new clog.new frames.new ≡ called_lent 4096 (Advance mark) (lent h rows.old resident.old touched.old) log.old db.old clog.old frames.old }
+) -> Result<Head, Refusal>
+    ensures { leaving (replied h result).number (lent (replied h result).head rows.new resident.new touched.new) log.new db.new clog.new frames.new ≡ called_lent 4096 (Advance mark) (lent h rows.old resident.old touched.old) log.old db.old clog.old frames.old }
 {
     let m = ready_advance(
         h,
@@ -189,8 +158,8 @@ pub fn advance(
         &db[..],
         &clog[..],
         &frames[..],
-    );
-    acts::carry_out(m, rows, resident, touched, log, db, clog, frames)
+    )?;
+    Ok(acts::carry_out(m, rows, resident, touched, log, db, clog, frames))
 }
 
 pub fn advance_to(
@@ -204,8 +173,8 @@ pub fn advance_to(
     db: &mut [u8],
     clog: &mut [u8],
     frames: &[u8],
-) -> Cut
-    ensures { cut_of result log.new db.new clog.new ≡ cut_lent 4096 k (Advance mark) (lent h rows.now resident.now touched.now) log.old db.old clog.old frames.now }
+) -> Result<Lens, Refusal>
+    ensures { cut_of (cut h.lens result) log.new db.new clog.new ≡ cut_lent 4096 k (Advance mark) (lent h rows.now resident.now touched.now) log.old db.old clog.old frames.now }
 {
     let m = ready_advance(
         h,
@@ -217,8 +186,8 @@ pub fn advance_to(
         &db[..],
         &clog[..],
         frames,
-    );
-    acts::cut_at(m, k, log, db, clog, frames)
+    )?;
+    Ok(acts::cut_at(m, k, log, db, clog, frames))
 }
 
 pub fn advance_count(
@@ -231,11 +200,11 @@ pub fn advance_count(
     db: &[u8],
     clog: &[u8],
     frames: &[u8],
-) -> Counted
-    ensures { result ≡ counted_lent 4096 (Advance mark) (lent h rows.now resident.now touched.now) log.now db.now clog.now frames.now }
+) -> Result<usize, Refusal>
+    ensures { counted result ≡ counted_lent 4096 (Advance mark) (lent h rows.now resident.now touched.now) log.now db.now clog.now frames.now }
 {
-    let m = ready_advance(h, rows, resident, touched, mark, log, db, clog, frames);
-    acts::count_of(m)
+    let m = ready_advance(h, rows, resident, touched, mark, log, db, clog, frames)?;
+    Ok(acts::count_of(m))
 }
 
 pub fn advance_told(
@@ -249,11 +218,11 @@ pub fn advance_told(
     db: &[u8],
     clog: &[u8],
     frames: &[u8],
-) -> Told
+) -> Result<Option<Telling>, Refusal>
     ensures { told_by result ≡ told_lent 4096 k (Advance mark) (lent h rows.now resident.now touched.now) log.now db.now clog.now frames.now }
 {
-    let m = ready_advance(h, rows, resident, touched, mark, log, db, clog, frames);
-    acts::told_at(m, k)
+    let m = ready_advance(h, rows, resident, touched, mark, log, db, clog, frames)?;
+    Ok(acts::told_at(m, k))
 }
 
 // ---- commit
@@ -264,19 +233,19 @@ fn commit_ending(
     resident: &[u32; 64],
     touched: &[u64; 64],
 ) -> Ending
-    ensures { result ≡ commit_ending h rows.now resident.now touched.now }
+    ensures { ending_of result ≡ commit_ending h rows.now resident.now touched.now }
 {
     let id = h.id;
     let m = counters_of(h);
     let plan = gathers::commit_plan(id, touched, h.touched, resident, h.resident, m);
-    let set = rows::set_no(rows, h.entries, id);
+    let full = acts::check_table(rows, h.entries, id);
     let time = h.time;
     let after = table::next_time(time);
     let head = with_end(h, h.pages, after);
     let back = picks::none();
     Ending {
         head,
-        full: set.number,
+        full,
         change: Change::Set(id, Status::Committed(time)),
         plan,
         back,
@@ -292,19 +261,12 @@ fn ready_commit(
     db: &[u8],
     clog: &[u8],
     frames: &[u8],
-) -> Made
-    ensures { made_in 4096 result rows.now resident.now touched.now log.now db.now clog.now frames.now ≡ ready_lent 4096 Commit (lent h rows.now resident.now touched.now) log.now db.now clog.now frames.now }
+) -> Result<Made, Refusal>
+    ensures { made_in 4096 (made_of h result) rows.now resident.now touched.now log.now db.now clog.now frames.now ≡ ready_lent 4096 Commit (lent h rows.now resident.now touched.now) log.now db.now clog.now frames.now }
 {
-    // Nothing reads these slices: with them the proof knows the arrays' sizes.
-    let a = &rows[..];
-    let b = &resident[..];
-    let c = &touched[..];
-    let no = lent::front_no(h, rows, resident, touched, log, db, clog, frames);
-    if no != numbers::ACCEPTED {
-        return acts::bare(no, Change::Same, h);
-    }
+    lent::check_front(h, rows, resident, touched, log, db, clog, frames)?;
     if h.held != 1 {
-        return acts::bare(numbers::ACCEPTED, Change::Same, h);
+        return Ok(acts::bare(Change::Same, h));
     }
     let x = commit_ending(h, rows, resident, touched);
     seal(h, x, resident, log, db, clog, frames)
@@ -320,8 +282,8 @@ pub fn commit(
     db: &mut [u8],
     clog: &mut [u8],
     frames: &mut [u8],
-) -> Reply
-    ensures { leaving result.number (lent result.head rows.new resident.new touched.new) log.new db.new clog.new frames.new ≡ called_lent 4096 Commit (lent h rows.old resident.old touched.old) log.old db.old clog.old frames.old }
+) -> Result<Head, Refusal>
+    ensures { leaving (replied h result).number (lent (replied h result).head rows.new resident.new touched.new) log.new db.new clog.new frames.new ≡ called_lent 4096 Commit (lent h rows.old resident.old touched.old) log.old db.old clog.old frames.old }
 {
     let m = ready_commit(
         h,
@@ -332,8 +294,8 @@ pub fn commit(
         &db[..],
         &clog[..],
         &frames[..],
-    );
-    acts::carry_out(m, rows, resident, touched, log, db, clog, frames)
+    )?;
+    Ok(acts::carry_out(m, rows, resident, touched, log, db, clog, frames))
 }
 
 pub fn commit_to(
@@ -346,8 +308,8 @@ pub fn commit_to(
     db: &mut [u8],
     clog: &mut [u8],
     frames: &[u8],
-) -> Cut
-    ensures { cut_of result log.new db.new clog.new ≡ cut_lent 4096 k Commit (lent h rows.now resident.now touched.now) log.old db.old clog.old frames.now }
+) -> Result<Lens, Refusal>
+    ensures { cut_of (cut h.lens result) log.new db.new clog.new ≡ cut_lent 4096 k Commit (lent h rows.now resident.now touched.now) log.old db.old clog.old frames.now }
 {
     let m = ready_commit(
         h,
@@ -358,8 +320,8 @@ pub fn commit_to(
         &db[..],
         &clog[..],
         frames,
-    );
-    acts::cut_at(m, k, log, db, clog, frames)
+    )?;
+    Ok(acts::cut_at(m, k, log, db, clog, frames))
 }
 
 pub fn commit_count(
@@ -371,11 +333,11 @@ pub fn commit_count(
     db: &[u8],
     clog: &[u8],
     frames: &[u8],
-) -> Counted
-    ensures { result ≡ counted_lent 4096 Commit (lent h rows.now resident.now touched.now) log.now db.now clog.now frames.now }
+) -> Result<usize, Refusal>
+    ensures { counted result ≡ counted_lent 4096 Commit (lent h rows.now resident.now touched.now) log.now db.now clog.now frames.now }
 {
-    let m = ready_commit(h, rows, resident, touched, log, db, clog, frames);
-    acts::count_of(m)
+    let m = ready_commit(h, rows, resident, touched, log, db, clog, frames)?;
+    Ok(acts::count_of(m))
 }
 
 pub fn commit_told(
@@ -388,11 +350,11 @@ pub fn commit_told(
     db: &[u8],
     clog: &[u8],
     frames: &[u8],
-) -> Told
+) -> Result<Option<Telling>, Refusal>
     ensures { told_by result ≡ told_lent 4096 k Commit (lent h rows.now resident.now touched.now) log.now db.now clog.now frames.now }
 {
-    let m = ready_commit(h, rows, resident, touched, log, db, clog, frames);
-    acts::told_at(m, k)
+    let m = ready_commit(h, rows, resident, touched, log, db, clog, frames)?;
+    Ok(acts::told_at(m, k))
 }
 
 // ---- rollback
@@ -404,20 +366,17 @@ fn past_page(n: u64, page: u32) -> u64
     if numbers::NO_PAGE <= page {
         return n;
     }
-    let p = page as u64;
-    if n <= p { p + 1 } else { n }
+    n.max(page as u64 + 1)
 }
 
 // A page that gets the file's bytes back is written like any other: the page count is raised past it.
 fn raised(x: Picked, pages: u64) -> u64
     ensures { result ≡ raised_by x pages }
 {
-    let k = fields::smaller(x.n, 64);
+    let k = x.n.min(64);
     let mut n = pages;
-    let mut i = 0;
-    while i < k {
-        n = past_page(n, x.pages[i]);
-        i += 1;
+    for page in &x.pages[..k] {
+        n = past_page(n, *page);
     }
     n
 }
@@ -429,7 +388,7 @@ fn rollback_ending(
     touched: &[u64; 64],
     list: &[u32],
 ) -> Ending
-    ensures { result ≡ rollback_ending list.now h rows.now resident.now touched.now }
+    ensures { ending_of result ≡ rollback_ending list.now h rows.now resident.now touched.now }
 {
     let id = h.id;
     let m = counters_of(h);
@@ -442,13 +401,13 @@ fn rollback_ending(
         Which::Catalog,
         list,
     );
-    let set = rows::set_no(rows, h.entries, id);
+    let full = acts::check_table(rows, h.entries, id);
     let pages = raised(back, h.pages);
     let time = h.time;
     let head = with_end(h, pages, time);
     Ending {
         head,
-        full: set.number,
+        full,
         change: Change::Set(id, Status::Aborted),
         plan,
         back,
@@ -465,22 +424,15 @@ fn ready_rollback(
     db: &[u8],
     clog: &[u8],
     frames: &[u8],
-) -> Made
-    ensures { made_in 4096 result rows.now resident.now touched.now log.now db.now clog.now frames.now ≡ ready_lent 4096 (Rollback list.now) (lent h rows.now resident.now touched.now) log.now db.now clog.now frames.now }
+) -> Result<Made, Refusal>
+    ensures { made_in 4096 (made_of h result) rows.now resident.now touched.now log.now db.now clog.now frames.now ≡ ready_lent 4096 (Rollback list.now) (lent h rows.now resident.now touched.now) log.now db.now clog.now frames.now }
 {
-    // Nothing reads these slices: with them the proof knows the arrays' sizes.
-    let a = &rows[..];
-    let b = &resident[..];
-    let c = &touched[..];
-    let no = lent::front_no(h, rows, resident, touched, log, db, clog, frames);
-    if no != numbers::ACCEPTED {
-        return acts::bare(no, Change::Same, h);
-    }
+    lent::check_front(h, rows, resident, touched, log, db, clog, frames)?;
     if picks::any_bad(list) {
-        return acts::bare(numbers::BAD_PAGE, Change::Same, h);
+        return Err(Refusal::BadPage);
     }
     if h.held != 1 {
-        return acts::bare(numbers::ACCEPTED, Change::Same, h);
+        return Ok(acts::bare(Change::Same, h));
     }
     let x = rollback_ending(h, rows, resident, touched, list);
     seal(h, x, resident, log, db, clog, frames)
@@ -498,8 +450,8 @@ pub fn rollback(
     db: &mut [u8],
     clog: &mut [u8],
     frames: &mut [u8],
-) -> Reply
-    ensures { leaving result.number (lent result.head rows.new resident.new touched.new) log.new db.new clog.new frames.new ≡ called_lent 4096 (Rollback list.now) (lent h rows.old resident.old touched.old) log.old db.old clog.old frames.old }
+) -> Result<Head, Refusal>
+    ensures { leaving (replied h result).number (lent (replied h result).head rows.new resident.new touched.new) log.new db.new clog.new frames.new ≡ called_lent 4096 (Rollback list.now) (lent h rows.old resident.old touched.old) log.old db.old clog.old frames.old }
 {
     let m = ready_rollback(
         h,
@@ -511,8 +463,8 @@ pub fn rollback(
         &db[..],
         &clog[..],
         &frames[..],
-    );
-    acts::carry_out(m, rows, resident, touched, log, db, clog, frames)
+    )?;
+    Ok(acts::carry_out(m, rows, resident, touched, log, db, clog, frames))
 }
 
 pub fn rollback_to(
@@ -526,8 +478,8 @@ pub fn rollback_to(
     db: &mut [u8],
     clog: &mut [u8],
     frames: &[u8],
-) -> Cut
-    ensures { cut_of result log.new db.new clog.new ≡ cut_lent 4096 k (Rollback list.now) (lent h rows.now resident.now touched.now) log.old db.old clog.old frames.now }
+) -> Result<Lens, Refusal>
+    ensures { cut_of (cut h.lens result) log.new db.new clog.new ≡ cut_lent 4096 k (Rollback list.now) (lent h rows.now resident.now touched.now) log.old db.old clog.old frames.now }
 {
     let m = ready_rollback(
         h,
@@ -539,8 +491,8 @@ pub fn rollback_to(
         &db[..],
         &clog[..],
         frames,
-    );
-    acts::cut_at(m, k, log, db, clog, frames)
+    )?;
+    Ok(acts::cut_at(m, k, log, db, clog, frames))
 }
 
 pub fn rollback_count(
@@ -553,11 +505,11 @@ pub fn rollback_count(
     db: &[u8],
     clog: &[u8],
     frames: &[u8],
-) -> Counted
-    ensures { result ≡ counted_lent 4096 (Rollback list.now) (lent h rows.now resident.now touched.now) log.now db.now clog.now frames.now }
+) -> Result<usize, Refusal>
+    ensures { counted result ≡ counted_lent 4096 (Rollback list.now) (lent h rows.now resident.now touched.now) log.now db.now clog.now frames.now }
 {
-    let m = ready_rollback(h, rows, resident, touched, list, log, db, clog, frames);
-    acts::count_of(m)
+    let m = ready_rollback(h, rows, resident, touched, list, log, db, clog, frames)?;
+    Ok(acts::count_of(m))
 }
 
 pub fn rollback_told(
@@ -571,9 +523,9 @@ pub fn rollback_told(
     db: &[u8],
     clog: &[u8],
     frames: &[u8],
-) -> Told
+) -> Result<Option<Telling>, Refusal>
     ensures { told_by result ≡ told_lent 4096 k (Rollback list.now) (lent h rows.now resident.now touched.now) log.now db.now clog.now frames.now }
 {
-    let m = ready_rollback(h, rows, resident, touched, list, log, db, clog, frames);
-    acts::told_at(m, k)
+    let m = ready_rollback(h, rows, resident, touched, list, log, db, clog, frames)?;
+    Ok(acts::told_at(m, k))
 }

@@ -3,239 +3,122 @@
 // equation with a definition of specs/Bytes.antt or with `sets`, which stores what lies inside a list and ignores the rest.
 #![tactic(auto)]
 
+pub mod arrays;
 pub mod numbers;
+mod refusal;
 
-ghost use Rattle.std.specs.Prelude.{◌≡◌, ◌+◌, ◌-◌, ◌^◌, ◌≤◌, ◌<◌, min, max, length, replicate, set};
+ghost use Rattle.std.specs.Prelude.{◌≡◌, ◌+◌, ◌-◌, ◌<◌, min, max, ◌++◌, length, take, drop, replicate};
 ghost use Rattle.std.proofs.lemmas.List.Edits.{sets};
-ghost use Rattle.fields.specs.Bytes.{field, bytes_of, big_field, big_bytes, starts};
+ghost use Rattle.fields.specs.Bytes.{field, bytes_of, big_field, big_bytes, part, starts};
 ghost use Rattle.fields.specs.Files.{unfit};
-ghost use Rattle.fields.specs.Answers.{length_of};
+
+pub use refusal::Refusal;
 
 // A transaction's number. It is never accepted as a time.
-#[derive(Clone, Copy)]
+#[derive(Clone, Copy, Debug, PartialEq, Eq, PartialOrd, Ord)]
 pub struct TransactionId(pub u64);
 
 // A commit's time. It is never accepted as a transaction's number.
-#[derive(Clone, Copy)]
+#[derive(Clone, Copy, Debug, PartialEq, Eq, PartialOrd, Ord)]
 pub struct CommitTime(pub u64);
-
-// What a call on one file answers: the file's length after it, or the number of its refusal.
-#[derive(Clone, Copy)]
-pub enum Answer {
-    Accepted(usize),
-    Refused(u8),
-}
-
-// The length that an accepted call tells; 0 of a refused one.
-pub fn length_of(a: Answer) -> usize
-    ensures { result ≡ length_of a }
-{
-    match a {
-        Answer::Accepted(len) => len,
-        Answer::Refused(_) => 0,
-    }
-}
-
-pub fn smaller(a: usize, b: usize) -> usize
-    ensures { result ≡ min a b }
-{
-    if a < b { a } else { b }
-}
-
-pub fn larger(a: usize, b: usize) -> usize
-    ensures { result ≡ max a b }
-{
-    if a < b { b } else { a }
-}
 
 // Whether a buffer is over its limit, or the length over the buffer.
 pub fn is_unfit(limit: usize, size: usize, len: usize) -> bool
     ensures { result ≡ unfit limit size len }
 {
-    if limit < size {
-        return true;
-    }
-    size < len
-}
-
-fn wide(x: u8) -> u64
-    ensures { result ≡ x }
-{
-    x as u64
+    limit < size || size < len
 }
 
 // How many of n bytes from `at` on lie inside len bytes.
 fn inside(len: usize, at: usize, n: usize) -> usize
     ensures { result ≡ min n (len - at) }
 {
-    if len <= at {
-        return 0;
-    }
-    let left = len - at;
-    if left < n { left } else { n }
+    n.min(len.saturating_sub(at))
 }
 
-// The number in the n bytes from `at` on, of which the first k lie inside; the last byte first.
-fn digits(b: &[u8], at: usize, n: usize, k: usize) -> u64
-    requires { (n ≤ 8) × (k ≡ min n (length b.now - at)) }
-    ensures { (result ≡ field n at b.now) × (result < 256 ^ n) }
-{
-    let mut v: u64 = 0;
-    let mut i = k;
-    while 0 < i {
-        i -= 1;
-        v = v * 256 + wide(b[at + i]);
-    }
-    v
-}
+// ---- numbers, the lowest byte first
 
-// A number that lies inside is read by a loop of known length, which becomes one load.
-fn get(b: &[u8], at: usize, n: usize) -> u64
-    requires { n ≤ 8 }
-    ensures { (result ≡ field n at b.now) × (result < 256 ^ n) }
+// The N bytes from `at` on; what lies past the end counts as 0.
+fn bytes_at<const N: usize>(b: &[u8], at: usize) -> [u8; N]
+    ensures { result ≡ part N b.now at }
 {
-    let len = b.len();
-    if at <= len {
-        if n <= len - at {
-            return digits(b, at, n, n);
-        }
+    let mut bytes = [0; N];
+    if at < b.len() {
+        copy(&mut bytes, &b[at..]);
     }
-    let k = inside(len, at, n);
-    digits(b, at, n, k)
-}
-
-// The n low bytes of v, from `at` on, of which the first k lie inside.
-fn put_digits(b: &mut [u8], at: usize, n: usize, k: usize, v: u64)
-    requires { k ≡ min n (length b.old - at) }
-    ensures { b.new ≡ sets b.old at (bytes_of n v) }
-{
-    let mut rest = v;
-    let mut i = 0;
-    while i < k {
-        b[at + i] = (rest % 256) as u8;
-        rest = rest / 256;
-        i += 1;
-    }
-}
-
-// As in get, the usual way is one store.
-fn put(b: &mut [u8], at: usize, n: usize, v: u64)
-    ensures { b.new ≡ sets b.old at (bytes_of n v) }
-{
-    let len = b.len();
-    if at <= len {
-        if n <= len - at {
-            put_digits(b, at, n, n, v);
-            return;
-        }
-    }
-    let k = inside(len, at, n);
-    put_digits(b, at, n, k, v);
+    bytes
 }
 
 pub fn get_u32(b: &[u8], at: usize) -> u32
     ensures { result ≡ field 4 at b.now }
 {
-    get(b, at, 4) as u32
+    u32::from_le_bytes(bytes_at(b, at))
 }
 
 pub fn get_u64(b: &[u8], at: usize) -> u64
     ensures { result ≡ field 8 at b.now }
 {
-    get(b, at, 8)
+    u64::from_le_bytes(bytes_at(b, at))
 }
 
 pub fn put_u32(b: &mut [u8], at: usize, v: u32)
     ensures { b.new ≡ sets b.old at (bytes_of 4 v) }
 {
-    put(b, at, 4, v as u64)
+    lay(b, at, &u32::to_le_bytes(v));
 }
 
 pub fn put_u64(b: &mut [u8], at: usize, v: u64)
     ensures { b.new ≡ sets b.old at (bytes_of 8 v) }
 {
-    put(b, at, 8, v)
+    lay(b, at, &u64::to_le_bytes(v));
 }
 
 // ---- the same with the highest byte first
 
-// The number in the n bytes from `at` on, of those that lie inside.
-fn get_big(b: &[u8], at: usize, n: usize) -> u64
-    requires { n ≤ 8 }
-    ensures { (result ≡ big_field n at b.now) × (result < 256 ^ n) }
+// The N bytes from `at` on, of those that lie inside, at the end of as many zeros as are missing: the highest byte is the first that there is.
+fn last_bytes_at<const N: usize>(b: &[u8], at: usize) -> [u8; N]
+    ensures { result ≡ replicate (N - length (take N (drop at b.now))) 0 ++ take N (drop at b.now) }
 {
-    let k = inside(b.len(), at, n);
-    let mut value: u64 = 0;
-    let mut i = 0;
-    while i < k {
-        value = value * 256 + wide(b[at + i]);
-        i += 1;
+    let mut bytes = [0; N];
+    let k = inside(b.len(), at, N);
+    if 0 < k {
+        lay(&mut bytes, N - k, &b[at..at + k]);
     }
-    value
-}
-
-// The byte i after the place `at`; nothing where that is past the end.
-fn put_byte(b: &mut [u8], at: usize, i: usize, x: u8)
-    ensures { b.new ≡ set b.old (at + i) x }
-{
-    if b.len() <= at {
-        return;
-    }
-    if b.len() - at <= i {
-        return;
-    }
-    b[at + i] = x;
-}
-
-// The n low bytes of v, the lowest of them last: it goes in first.
-fn put_big(b: &mut [u8], at: usize, n: usize, v: u64)
-    ensures { b.new ≡ sets b.old at (big_bytes n v) }
-{
-    let mut high = v;
-    let mut i = n;
-    while 0 < i {
-        i -= 1;
-        put_byte(b, at, i, (high % 256) as u8);
-        high = high / 256;
-    }
+    bytes
 }
 
 pub fn get_big_u32(b: &[u8], at: usize) -> u32
     ensures { result ≡ big_field 4 at b.now }
 {
-    get_big(b, at, 4) as u32
+    u32::from_be_bytes(last_bytes_at(b, at))
 }
 
 pub fn get_big_u64(b: &[u8], at: usize) -> u64
     ensures { result ≡ big_field 8 at b.now }
 {
-    get_big(b, at, 8)
+    u64::from_be_bytes(last_bytes_at(b, at))
 }
 
 pub fn put_big_u32(b: &mut [u8], at: usize, v: u32)
     ensures { b.new ≡ sets b.old at (big_bytes 4 v) }
 {
-    put_big(b, at, 4, v as u64)
+    lay(b, at, &u32::to_be_bytes(v));
 }
 
 pub fn put_big_u64(b: &mut [u8], at: usize, v: u64)
     ensures { b.new ≡ sets b.old at (big_bytes 8 v) }
 {
-    put_big(b, at, 8, v)
+    lay(b, at, &u64::to_be_bytes(v));
 }
 
 // ---- parts
 
-// src over the front of dst.
+// src over the front of dst, as much of it as fits.
 pub fn copy(dst: &mut [u8], src: &[u8])
     ensures { dst.new ≡ sets dst.old 0 src.now }
 {
     let k = inside(dst.len(), 0, src.len());
-    let mut i = 0;
-    while i < k {
-        dst[i] = src[i];
-        i += 1;
-    }
+    dst[..k].copy_from_slice(&src[..k]);
 }
 
 // src from `at` on: the part of the buffer from there on is lent to the copy.
@@ -253,10 +136,8 @@ pub fn zero_fill(b: &mut [u8], from: usize, to: usize)
     ensures { b.new ≡ sets b.old from (replicate (to - from) 0) }
 {
     let end = inside(b.len(), 0, to);
-    let mut i = from;
-    while i < end {
-        b[i] = 0;
-        i += 1;
+    if from < end {
+        b[from..end].fill(0);
     }
 }
 
@@ -264,15 +145,5 @@ pub fn zero_fill(b: &mut [u8], from: usize, to: usize)
 pub fn begins(m: &[u8], s: &[u8]) -> bool
     ensures { result ≡ starts m.now s.now }
 {
-    let mut i = 0;
-    while i < m.len() {
-        if s.len() <= i {
-            return false;
-        }
-        if s[i] != m[i] {
-            return false;
-        }
-        i += 1;
-    }
-    true
+    s.starts_with(m)
 }

@@ -17,7 +17,7 @@ use Rattle.frames.specs.declared.Frames.{Frames}
 use Rattle.frames.specs.declared.Touched.{Touched}
 use Rattle.frames.specs.Pages as pages
 use Rattle.frames.specs.Pages.{distinct, any_bad, frame_count, frames_formed, touched_formed}
-use Rattle.frames.proofs.Values.{frames-over, frames-fit, touched-over, touched-fit}
+use Rattle.frames.proofs.Values.{touched-over, touched-fit}
 use Rattle.world.specs.Refusals.{any_of, bad_table, bad_touched, bad_frames}
 use Rattle.form.specs.declared.Store.{Store}
 use Rattle.form.specs.Store.{first_of, entries_of, resident_of, touched_of}
@@ -91,16 +91,16 @@ unfolding frame_count
 count_most P size = omega arith
 
 pub frames-bad : (P : ℕ) (f : Frames) (size : ℕ) → length f.pages ≡ 64 → not (frames_formed 64 P f size) ≡ bad_frames (frame_count 64 P size) (resident_of f)
-unfolding bad_frames any_of
+unfolding bad_frames any_of frames_formed
 frames-bad P f size len = go (order (frame_count 64 P size) f.count)
   where
     go : Order (frame_count 64 P size) f.count →
         not (frames_formed 64 P f size) ≡
         (ltb (frame_count 64 P size) (length (resident_of f)) || (not (distinct (resident_of f)) || (any_bad (resident_of f) || false)))
-    go (less h) = rw (frames-over 64 P f size h, length-first 0 f.count f.pages, lt-ltb (frame_count 64 P size) f.count h)
+    go (less h) = rw (lt-leb f.count (frame_count 64 P size) h, length-first 0 f.count f.pages, lt-ltb (frame_count 64 P size) f.count h)
     go (most h) =
         rw (
-          frames-fit 64 P f size h,
+          le-leb f.count (frame_count 64 P size) h,
           length-first 0 f.count f.pages,
           le-ltb (frame_count 64 P size) f.count h,
           first_fits 0 f.count f.pages (omega (arith, count_most P size)),

@@ -1,7 +1,9 @@
 -- From the code's store to the lists that the calls are defined over, and back; and what comes out of a call on a store. P is the page size.
 -- Each array of a store is read as the list of its first count elements. A changed store is its lists laid in front of the old arrays: what stands past a count
 -- stays. A refusal hands back the old store and changes no buffer. Assumes nothing.
-use Rattle.std.specs.Prelude.{ℕ, ◌-◌, List, ◌++◌, length, take, replicate}
+use Rattle.std.specs.Prelude.{ℕ, ◌-◌, List, ◌++◌, length, take, replicate, Result, Ok, Err}
+use Rattle.fields.specs.declared.refusal.Refusal.{Refusal}
+use Rattle.fields.specs.Refusals.{number_of}
 use Rattle.fields.specs.Answers.{no_id, no_time}
 use Rattle.table.specs.declared.Entry.{Entry}
 use Rattle.table.specs.declared.Table.{Table}
@@ -17,7 +19,6 @@ use Rattle.world.specs.Refusals.{refuses}
 use Rattle.world.specs.Run.{done, decided, call}
 use Rattle.form.specs.declared.Held.{Held}
 use Rattle.form.specs.declared.Store.{Store}
-use Rattle.form.specs.declared.Changed.{Changed}
 
 -- ---- a store and its world
 
@@ -84,6 +85,16 @@ no_store =
       held = no_held;
     }
 
+-- ---- what a call answers: its number, and the store after it; a refused call leaves the store s
+
+pub record Changed : Type 0 where
+  pub number : ℕ
+  pub store : Store
+
+abbrev pub changed : Store → Result Store Refusal → Changed
+changed s (Ok u) = record { number = 0; store = u }
+changed s (Err r) = record { number = number_of r; store = s }
+
 -- ---- what comes out of a call: its number, the store, and every byte of the four buffers
 
 pub record Outcome : Type 0 where
@@ -139,6 +150,15 @@ pub record Given (A : Type 0) : Type 0 where
 
 abbrev pub given : {A : Type 0} → A → Changed → List ℕ → List ℕ → List ℕ → List ℕ → Given A
 given a r log db clog frames = record { value = a; outcome = outcome r log db clog frames }
+
+-- what a call hands out beside the store: b where it is refused
+abbrev pub value_in : {A : Type 0} → A → Result (A × Store) Refusal → A
+value_in b (Ok x) = x.0
+value_in b (Err r) = b
+
+abbrev pub changed_in : {A : Type 0} → Store → Result (A × Store) Refusal → Changed
+changed_in s (Ok x) = record { number = 0; store = x.1 }
+changed_in s (Err r) = record { number = number_of r; store = s }
 
 -- a where the call is accepted, else b
 abbrev pub handed : {A : Type 0} → A → A → Outcome → Given A

@@ -3,12 +3,13 @@
 #![tactic(auto)]
 
 ghost use Rattle.std.specs.Prelude.{◌≡◌, length};
+ghost use Rattle.fields.specs.Refusals.{number_in};
 ghost use Rattle.world.specs.World.{files_of};
 ghost use Rattle.world.specs.Refusals.{bad_buffers, front_no, is_installed};
 ghost use Rattle.form.specs.Store.{world_of};
 ghost use Rattle.form.specs.Inside.{out_of_form};
 
-use fields::{CommitTime, TransactionId, numbers};
+use fields::{CommitTime, Refusal, TransactionId, numbers};
 use frames::{Frames, Touched};
 use table::Table;
 use world::{Lens, Slot};
@@ -33,73 +34,49 @@ pub struct Store {
     pub held: Held,
 }
 
-// What a call answers: its number and the store after it.
-#[derive(Clone, Copy)]
-pub struct Changed {
-    pub number: u8,
-    pub store: Store,
-}
-
-// Refusal 1.
+// Whether a buffer is over its limit, a length over its buffer, or the frame buffer smaller than a page.
+#[tactic(auto, unfolding(world::specs::Refusals::bad_buffers, world::specs::Refusals::any_of, fields::specs::Files::unfit))]
 pub fn buffers_bad(lens: Lens, log: &[u8], db: &[u8], clog: &[u8], frames: &[u8]) -> bool
     ensures { result ≡ bad_buffers 4096 (files_of lens log.now db.now clog.now) frames.now }
 {
-    if fields::is_unfit(numbers::BUFFER_LIMIT, log.len(), lens.log) {
-        return true;
-    }
-    if fields::is_unfit(numbers::BUFFER_LIMIT, db.len(), lens.db) {
-        return true;
-    }
-    if fields::is_unfit(numbers::CLOG_LIMIT, clog.len(), lens.clog) {
-        return true;
-    }
-    frames.len() < numbers::PAGE_SIZE
+    fields::is_unfit(numbers::BUFFER_LIMIT, log.len(), lens.log)
+        || fields::is_unfit(numbers::BUFFER_LIMIT, db.len(), lens.db)
+        || fields::is_unfit(numbers::CLOG_LIMIT, clog.len(), lens.clog)
+        || frames.len() < numbers::PAGE_SIZE
 }
 
-// Refusal 14 of a store, for a frame buffer of this size.
+// Whether a store is out of form, for a frame buffer of this size.
 fn store_bad(s: Store, size: usize) -> bool
     ensures { result ≡ out_of_form 4096 s size }
 {
-    let lens = s.lens;
-    if lens.log < numbers::HEADER {
-        return true;
-    }
-    if lens.clog < numbers::HEADER {
-        return true;
-    }
-    let t = s.table;
-    if !table::well_formed(t) {
-        return true;
-    }
-    let held = s.held;
-    let touched = held.touched;
-    if !frames::touched_formed(touched) {
-        return true;
-    }
-    let f = s.frames;
-    let good = frames::frames_formed(f, size);
-    !good
+    s.lens.log < numbers::HEADER
+        || s.lens.clog < numbers::HEADER
+        || !table::well_formed(s.table)
+        || !frames::touched_formed(s.held.touched)
+        || !frames::frames_formed(s.frames, size)
 }
 
-// What every call tests first: 1, then 14.
-pub fn front_no(s: Store, log: &[u8], db: &[u8], clog: &[u8], frames: &[u8]) -> u8
-    ensures { result ≡ front_no 4096 (world_of s log.now db.now clog.now frames.now) }
+// What every call tests first: the buffers, then the store.
+pub fn check_front(
+    s: Store,
+    log: &[u8],
+    db: &[u8],
+    clog: &[u8],
+    frames: &[u8],
+) -> Result<(), Refusal>
+    ensures { number_in result ≡ front_no 4096 (world_of s log.now db.now clog.now frames.now) }
 {
-    let lens = s.lens;
-    if buffers_bad(lens, log, db, clog, frames) {
-        return numbers::UNFIT;
+    if buffers_bad(s.lens, log, db, clog, frames) {
+        return Err(Refusal::Unfit);
     }
     if store_bad(s, frames.len()) {
-        return numbers::OUT_OF_FORM;
+        return Err(Refusal::OutOfForm);
     }
-    numbers::ACCEPTED
+    Ok(())
 }
 
 pub fn is_installed(slot: Slot) -> bool
     ensures { result ≡ is_installed slot }
 {
-    match slot {
-        Slot::Installed(_) => true,
-        Slot::Empty => false,
-    }
+    matches!(slot, Slot::Installed(_))
 }

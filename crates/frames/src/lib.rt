@@ -3,15 +3,15 @@
 // Values go in by value and come back. Every public function is total: its contract is an equation with a definition of specs/.
 #![tactic(auto)]
 
-ghost use Rattle.std.specs.Prelude.{◌≡◌, ◌≤◌, ◌<◌, ◌+◌, ◌-◌, ◌*◌, min, ◌∷◌, ◌++◌, ◌||◌, length, take, drop, eqb};
+ghost use Rattle.std.specs.Prelude.{◌≡◌, ◌≤◌, ◌*◌, min, length, take};
 ghost use Rattle.std.proofs.lemmas.List.Edits.{sets};
 ghost use Rattle.fields.specs.Bytes.{part};
 ghost use Rattle.fields.specs.Files.{file_of};
-ghost use Rattle.frames.specs.Pages.{is_in, distinct, ascending, any_bad, resident_of, touched_of, empty_frames, empty_touched, frame_count, frames_formed, touched_formed, found_in, place_told, seated, marked};
+ghost use Rattle.frames.specs.Pages.{is_in, distinct, ascending, any_bad, resident_of, touched_of, empty_frames, empty_touched, frame_count, frames_formed, touched_formed, found_in, place_told, seated_of, seated, marked_of, marked};
 ghost use Rattle.frames.specs.Inside.{below_in};
 ghost use Rattle.frames.specs.Copies.{page_of};
 
-use fields::{TransactionId, numbers};
+use fields::{Refusal, TransactionId, arrays, numbers};
 
 // The most frames, and the most touched pages.
 const LIMIT: usize = 64;
@@ -36,26 +36,6 @@ pub struct Transaction {
     pub touched: Touched,
 }
 
-#[derive(Clone, Copy)]
-pub enum Place {
-    At(usize),
-    Nowhere,
-}
-
-// number is 0, or 8 with the frames as they were.
-#[derive(Clone, Copy)]
-pub struct Seated {
-    pub number: u8,
-    pub frames: Frames,
-}
-
-// number is 0, or 11 with the pages as they were.
-#[derive(Clone, Copy)]
-pub struct Marked {
-    pub number: u8,
-    pub touched: Touched,
-}
-
 pub fn no_frames() -> Frames
     ensures { result ≡ empty_frames 64 }
 {
@@ -74,86 +54,59 @@ pub fn no_pages() -> Touched
     }
 }
 
-// How many pages are held: the count, and no more than the array. No function trusts the count of a value that it is given.
-fn held(count: usize) -> usize
-    ensures { result ≡ min count 64 }
+// The pages that are held: as many as the count says, and no more than the array has. No function trusts the count of a value that it is given.
+fn held(pages: &[u32; 64], count: usize) -> &[u32]
+    ensures list { result.now ≡ take count pages.now }
+    ensures len { length result.now ≡ min count 64 }
 {
-    if count < LIMIT { count } else { LIMIT }
+    let n = count.min(LIMIT);
+    &pages[..n]
 }
 
 // How many frames a frame buffer of this size has.
 fn frame_count(size: usize) -> usize
     ensures { result ≡ frame_count 64 4096 size }
 {
-    let n = size / numbers::PAGE_SIZE;
-    if n < LIMIT { n } else { LIMIT }
+    (size / numbers::PAGE_SIZE).min(LIMIT)
 }
 
 // ---- lists of page numbers
 
-// Whether a page was found before, or is this one.
-fn found_or(found: bool, x: u32, page: u32) -> bool
-    ensures { result ≡ (found || eqb x page) }
-{
-    if x == page {
-        return true;
-    }
-    found
-}
-
-// Whether the page stands among the first n, from `from` on. The loop has no early way out, so that several pages are compared at once.
-fn is_in(pages: &[u32], from: usize, n: usize, page: u32) -> bool
-    requires { n ≤ length pages.now }
-    ensures { result ≡ is_in page (drop from (take n pages.now)) }
+// The loop has no early way out, so that several pages are compared at once.
+fn is_in(pages: &[u32], page: u32) -> bool
+    ensures { result ≡ is_in page pages.now }
 {
     let mut found = false;
-    let mut i = from;
-    while i < n {
-        found = found_or(found, pages[i], page);
-        i += 1;
+    for x in pages {
+        found |= *x == page;
     }
     found
 }
 
-fn are_distinct(pages: [u32; 64], n: usize) -> bool
-    requires { n ≤ 64 }
-    ensures { result ≡ distinct (take n pages) }
+fn are_distinct(pages: &[u32]) -> bool
+    ensures { result ≡ distinct pages.now }
 {
-    let all = &pages[..];
-    let mut i = 0;
-    while i < n {
-        if is_in(all, i + 1, n, all[i]) {
+    for (i, page) in pages.iter().enumerate() {
+        if is_in(&pages[i + 1..], *page) {
             return false;
         }
-        i += 1;
     }
     true
 }
 
-fn are_ascending(pages: [u32; 64], n: usize) -> bool
-    requires { n ≤ 64 }
-    ensures { result ≡ ascending (take n pages) }
+fn are_ascending(pages: &[u32]) -> bool
+    ensures { result ≡ ascending pages.now }
 {
-    let mut i = 1;
-    while i < n {
-        if pages[i] <= pages[i - 1] {
-            return false;
-        }
-        i += 1;
-    }
-    true
+    pages.is_sorted_by(|x, y| *x < *y)
 }
 
-fn any_bad(pages: [u32; 64], n: usize) -> bool
-    requires { n ≤ 64 }
-    ensures { result ≡ any_bad (take n pages) }
+fn any_bad(pages: &[u32]) -> bool
+    ensures { result ≡ any_bad pages.now }
 {
-    let mut i = 0;
-    while i < n {
-        if numbers::NO_PAGE <= pages[i] {
+    for page in pages {
+        if numbers::NO_PAGE <= *page {
             return true;
         }
-        i += 1;
     }
     false
 }
@@ -164,61 +117,40 @@ fn any_bad(pages: [u32; 64], n: usize) -> bool
 pub fn frames_formed(f: Frames, size: usize) -> bool
     ensures { result ≡ frames_formed 64 4096 f size }
 {
-    let n = f.count;
-    let pages = f.pages;
-    let most = frame_count(size);
-    if most < n {
-        return false;
-    }
-    if !are_distinct(pages, n) {
-        return false;
-    }
-    let bad = any_bad(pages, n);
-    !bad
+    let pages = held(&f.pages, f.count);
+    f.count <= frame_count(size) && are_distinct(pages) && !any_bad(pages)
 }
 
 // The slot of a resident page.
-pub fn find(f: Frames, page: u32) -> Place
+pub fn find(f: Frames, page: u32) -> Option<usize>
     ensures { place_told result ≡ found_in page (resident_of f) }
 {
-    let n = held(f.count);
-    let mut i = 0;
-    while i < n {
-        if f.pages[i] == page {
-            return Place::At(i);
+    for (slot, x) in held(&f.pages, f.count).iter().enumerate() {
+        if *x == page {
+            return Some(slot);
         }
-        i += 1;
     }
-    Place::Nowhere
+    None
 }
 
 // A page keeps its frame; a new one takes the next.
-pub fn seat(f: Frames, size: usize, page: u32) -> Seated
-    ensures { result ≡ seated 64 4096 f size page }
+pub fn seat(f: Frames, size: usize, page: u32) -> Result<Frames, Refusal>
+    ensures { seated_of f result ≡ seated 64 4096 f size page }
 {
-    let n = held(f.count);
-    let pages = f.pages;
-    if is_in(&pages[..], 0, n, page) {
-        return Seated {
-            number: numbers::ACCEPTED,
-            frames: f,
-        };
+    let list = held(&f.pages, f.count);
+    let n = list.len();
+    if is_in(list, page) {
+        return Ok(f);
     }
-    let most = frame_count(size);
-    if most <= n {
-        return Seated {
-            number: numbers::FRAMES_FULL,
-            frames: f,
-        };
+    if frame_count(size) <= n {
+        return Err(Refusal::FramesFull);
     }
-    let mut a = pages;
-    a[n] = page;
-    let count = n + 1;
-    let more = Frames { pages: a, count };
-    Seated {
-        number: numbers::ACCEPTED,
-        frames: more,
-    }
+    let mut pages = f.pages;
+    pages[n] = page;
+    Ok(Frames {
+        pages,
+        count: n + 1,
+    })
 }
 
 // ---- touched pages
@@ -227,85 +159,48 @@ pub fn seat(f: Frames, size: usize, page: u32) -> Seated
 pub fn touched_formed(t: Touched) -> bool
     ensures { result ≡ touched_formed 64 t }
 {
-    let n = t.count;
-    let pages = t.pages;
-    if LIMIT < n {
-        return false;
-    }
-    if !are_ascending(pages, n) {
-        return false;
-    }
-    let bad = any_bad(pages, n);
-    !bad
+    let pages = held(&t.pages, t.count);
+    t.count <= LIMIT && are_ascending(pages) && !any_bad(pages)
 }
 
 pub fn is_marked(t: Touched, page: u32) -> bool
     ensures { result ≡ is_in page (touched_of t) }
 {
-    let n = held(t.count);
-    let pages = t.pages;
-    is_in(&pages[..], 0, n, page)
+    is_in(held(&t.pages, t.count), page)
 }
 
 // How many pages come before the first that is not below this one.
-fn count_below(pages: [u32; 64], n: usize, page: u32) -> usize
-    requires { n ≤ 64 }
-    ensures { result ≡ below_in page (take n pages) }
+fn count_below(pages: &[u32], page: u32) -> usize
+    ensures is { result ≡ below_in page pages.now }
+    ensures bound { result ≤ length pages.now }
 {
-    let mut i = 0;
-    while i < n {
-        if page <= pages[i] {
+    for (i, x) in pages.iter().enumerate() {
+        if page <= *x {
             return i;
         }
-        i += 1;
     }
-    i
-}
-
-// The pages from..to move up by one, and `page` goes to from. From the last down, so that none is written over before it has moved.
-fn shifted(pages: [u32; 64], from: usize, to: usize, page: u32) -> [u32; 64]
-    requires { (from ≤ to) × (to < 64) }
-    ensures { result ≡ take from pages ++ page ∷ take (to - from) (drop from pages) ++ drop (to + 1) pages }
-{
-    let mut a = pages;
-    let mut i = to;
-    while from < i {
-        a[i] = a[i - 1];
-        i -= 1;
-    }
-    a[from] = page;
-    a
+    pages.len()
 }
 
 // The page at its place, each once.
-pub fn mark(t: Touched, page: u32) -> Marked
-    ensures { result ≡ marked 64 t page }
+pub fn mark(t: Touched, page: u32) -> Result<Touched, Refusal>
+    ensures { marked_of t result ≡ marked 64 t page }
 {
-    let n = held(t.count);
-    let pages = t.pages;
-    let p = count_below(pages, n, page);
-    if p < n {
-        if pages[p] == page {
-            let same = Touched { pages, count: n };
-            return Marked {
-                number: numbers::ACCEPTED,
-                touched: same,
-            };
-        }
+    let list = held(&t.pages, t.count);
+    let n = list.len();
+    let p = count_below(list, page);
+    let mut pages = t.pages;
+    if p < n && pages[p] == page {
+        return Ok(Touched { pages, count: n });
     }
     if LIMIT <= n {
-        return Marked {
-            number: numbers::TOUCHED_FULL,
-            touched: t,
-        };
+        return Err(Refusal::TouchedFull);
     }
-    let b = shifted(pages, p, n, page);
-    let count = n + 1;
-    let more = Touched { pages: b, count };
-    Marked {
-        number: numbers::ACCEPTED,
-        touched: more,
-    }
+    arrays::shift_in(&mut pages[p..n + 1], page);
+    Ok(Touched {
+        pages,
+        count: n + 1,
+    })
 }
 
 // ---- page bytes
@@ -372,11 +267,10 @@ pub fn page_of(db: &[u8], len: usize, page: u32) -> [u8; 4096]
 pub fn put_frame(buf: &mut [u8], slot: usize, bytes: &[u8; 4096])
     ensures { buf.new ≡ sets buf.old (slot * 4096) bytes.now }
 {
-    let data = &bytes[..];
     if buf.len() / numbers::PAGE_SIZE < slot {
         return;
     }
-    fields::lay(buf, slot * numbers::PAGE_SIZE, data);
+    fields::lay(buf, slot * numbers::PAGE_SIZE, bytes);
 }
 
 // A page of the file into a frame: the buffer's part from the frame on is lent.

@@ -2,7 +2,7 @@
 // says; a touched page is a 64-bit number and a resident one a 32-bit number, so a touched number that 32 bits do not hold is never resident.
 #![tactic(auto)]
 
-ghost use Rattle.std.specs.Prelude.{◌≡◌, [], false, ◌<◌, min, take};
+ghost use Rattle.std.specs.Prelude.{◌≡◌, [], false, ◌<◌, take};
 ghost use Rattle.fields.specs.Answers.{no_time};
 ghost use Rattle.frames.specs.Pages.{is_in, found_in, place_told};
 ghost use Rattle.picks.specs.Picks.{wants, picked_of};
@@ -11,7 +11,6 @@ ghost use Rattle.plans.specs.Planned.{plan_of, timed};
 ghost use Rattle.gathers.specs.Gathered.{gathered};
 
 use fields::{CommitTime, TransactionId};
-use frames::Place;
 use meta::Counters;
 use picks::{Picked, Which};
 use stores::{Kind, Plan};
@@ -22,30 +21,12 @@ const LIMIT: usize = 64;
 // The last number that 32 bits hold.
 const LAST: u64 = 4294967295;
 
-// Whether a page stands in a list, which may be long, unsorted and repeated.
-fn is_listed(list: &[u32], page: u32) -> bool
-    ensures { result ≡ is_in page list.now }
-{
-    let mut i = 0;
-    while i < list.len() {
-        if list[i] == page {
-            return true;
-        }
-        i += 1;
-    }
-    false
-}
-
+// Whether a page is a catalog page. The list may be long, unsorted and repeated.
+#[tactic(auto, using(picks::proofs::Laws::in_any))]
 fn is_catalog(list: &[u32], page: u32) -> bool
     ensures { result ≡ wants Which.Catalog list.now page }
 {
-    if page == 1 {
-        return true;
-    }
-    if page == 2 {
-        return true;
-    }
-    is_listed(list, page)
+    page == 1 || page == 2 || list.contains(&page)
 }
 
 fn wanted(which: Which, list: &[u32], page: u32) -> bool
@@ -53,29 +34,20 @@ fn wanted(which: Which, list: &[u32], page: u32) -> bool
 {
     match which {
         Which::All => true,
-        Which::Data => {
-            let catalog = is_catalog(list, page);
-            !catalog
-        }
+        Which::Data => !is_catalog(list, page),
         Which::Catalog => is_catalog(list, page),
     }
 }
 
-fn held(count: usize) -> usize
-    ensures { result ≡ min count 64 }
-{
-    if count < LIMIT { count } else { LIMIT }
-}
-
 // With one page more, if it is resident and wanted.
-fn with_page(p: Picked, page: u32, place: Place, want: bool) -> Picked
+fn with_page(p: Picked, page: u32, place: Option<usize>, want: bool) -> Picked
     requires { p.n < 64 }
     ensures { result ≡ grown p (seat_if want page (place_told place).values) }
 {
     if !want {
         return p;
     }
-    let Place::At(slot) = place else {
+    let Some(slot) = place else {
         return p;
     };
     let n = p.n;
@@ -86,16 +58,12 @@ fn with_page(p: Picked, page: u32, place: Place, want: bool) -> Picked
     q
 }
 
-fn absent() -> bool {
-    false
-}
-
-// A number that 32 bits do not hold is no resident page's. It calls something, so that its proof knows every element to be a value of its type.
+// A number that 32 bits do not hold is no resident page's. It takes a slice, since of a slice its proof knows every element to be a value of its type.
 fn is_near(resident: &[u32], n: usize, x: u64) -> bool
     requires { 4294967295 < x }
     ensures { is_in x (take n resident.now) ≡ false }
 {
-    absent()
+    false
 }
 
 // With one touched page more.
@@ -110,10 +78,9 @@ fn with_touched(
     requires { p.n < 64 }
     ensures { result ≡ grown p (seat_if (wants which list.now x) x (found_in x (take f resident.now)).values) }
 {
-    let all = &resident[..];
     if LAST < x {
         // Nothing reads this: with it the proof knows that the number is not there.
-        let near = is_near(all, f, x);
+        let near = is_near(resident, f, x);
         return p;
     }
     let page = x as u32;
@@ -133,14 +100,10 @@ pub fn pick_in(
 ) -> Picked
     ensures { result ≡ picked_of 64 (gathered which list.now touched.now t resident.now f) }
 {
-    // Nothing reads this slice: with it the proof knows the array's size.
-    let all = &touched[..];
-    let n = held(t);
+    let n = t.min(LIMIT);
     let mut p = picks::none();
-    let mut i = 0;
-    while i < n {
-        p = with_touched(p, touched[i], resident, f, which, list);
-        i += 1;
+    for page in &touched[..n] {
+        p = with_touched(p, *page, resident, f, which, list);
     }
     p
 }

@@ -6,7 +6,7 @@ ghost use Rattle.std.specs.Prelude.{◌≡◌};
 ghost use Rattle.hands.specs.Handing.{handed_as};
 ghost use Rattle.handing.specs.Tables.{table_handed};
 
-use fields::Answer;
+use fields::Refusal;
 use form::Store;
 use table::Entry;
 
@@ -17,10 +17,9 @@ pub fn hand_out_table(
     clog: &[u8],
     frames: &[u8],
     out: &mut [Entry],
-) -> Answer
+) -> Result<usize, Refusal>
     ensures { handed_as result out.new ≡ table_handed 4096 s log.now db.now clog.now frames.now out.old }
 {
-    let no = form::front_no(s, log, db, clog, frames);
-    let t = s.table;
-    hands::hand_after(t, out, no)
+    let before = form::check_front(s, log, db, clog, frames);
+    hands::hand_after(s.table, out, before)
 }

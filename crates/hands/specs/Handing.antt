@@ -1,8 +1,8 @@
 -- The table's entries handed out into a lent slice: all of them in front, ascending by id, and what stands after the last stays. Refusals in their order: what the
 -- tests before it refused, 14 a table out of form, 13 a slice shorter than the table. A refusal changes no entry of the slice. N is the table's limit.
 -- Assumes nothing.
-use Rattle.std.specs.Prelude.{ℕ, zero, suc, List, [], ◌∷◌, cond, length, ltb}
-use Rattle.fields.specs.declared.Answer.{Answer}
+use Rattle.std.specs.Prelude.{ℕ, zero, suc, List, [], ◌∷◌, cond, length, ltb, Result}
+use Rattle.fields.specs.declared.refusal.Refusal.{Refusal}
 use Rattle.fields.specs.Answers.{Told, told}
 use Rattle.sorted.specs.Sorted.{laid_on}
 use Rattle.table.specs.declared.Entry.{Entry}
@@ -14,7 +14,7 @@ pub record Handed : Type 0 where
   pub told : Told
   pub slice : List Entry
 
-abbrev pub handed_as : Answer → List Entry → Handed
+abbrev pub handed_as : Result ℕ Refusal → List Entry → Handed
 handed_as a slice = record { told = told a; slice = slice }
 
 -- the entries l handed out into a slice, where the number is 0

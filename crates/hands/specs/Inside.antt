@@ -1,21 +1,14 @@
--- What the contracts of private functions cite: how many entries are handed out, and the answer; a reader of the public ones need not know it. N is the table's limit. Assumes nothing.
-use Rattle.std.specs.Prelude.{ℕ, zero, suc}
-use Rattle.fields.specs.declared.Answer.{Answer}
-use Rattle.fields.specs.declared.Answer.TheVariants.{Accepted, Refused}
+-- What the contract of a private function cites: what is told of a hand-out before the entries are laid; a reader of the public ones need not know it. N is the table's
+-- limit. Assumes nothing.
+use Rattle.std.specs.Prelude.{ℕ, zero, suc, [], ◌∷◌}
+use Rattle.fields.specs.Answers.{Told}
 use Rattle.table.specs.declared.Table.{Table}
 use Rattle.hands.specs.Handing.{hand_no}
 
--- n where the number is 0, else none
-abbrev pub count_if : ℕ → ℕ → ℕ
-count_if n zero = n
-count_if n (suc k) = 0
+-- n entries, where the number is 0
+abbrev pub told_if : ℕ → ℕ → Told
+told_if n zero = record { number = 0; values = n ∷ [] }
+told_if n (suc k) = record { number = suc k; values = [] }
 
-abbrev pub reply_if : ℕ → ℕ → Answer
-reply_if n zero = Accepted n
-reply_if n (suc k) = Refused (suc k)
-
-unfoldable pub to_hand : ℕ → Table → ℕ → ℕ → ℕ
-to_hand N t room before = count_if t.count (hand_no N t room before)
-
-unfoldable pub reply_of : ℕ → Table → ℕ → ℕ → Answer
-reply_of N t room before = reply_if t.count (hand_no N t room before)
+unfoldable pub hand_told : ℕ → Table → ℕ → ℕ → Told
+hand_told N t room before = told_if t.count (hand_no N t room before)

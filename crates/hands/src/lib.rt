@@ -1,77 +1,47 @@
-// The status table, handed out into a lent slice of entries: how many go is told first, then they are laid, one a turn. An entry is its id and its status, a
+// The status table, handed out into a lent slice of entries: how many go is told first, then they are laid. An entry is its id and its status, a
 // Committed one with its time.
 #![tactic(auto)]
 
-ghost use Rattle.std.specs.Prelude.{◌≡◌, ◌<◌, get_or};
-ghost use Rattle.table.specs.Entries.{blank};
-ghost use Rattle.hands.specs.Handing.{hand_no, handed_as, handed};
-ghost use Rattle.hands.specs.Inside.{to_hand, reply_of};
+ghost use Rattle.std.specs.Prelude.{◌≡◌};
+ghost use Rattle.fields.specs.Refusals.{number_in};
+ghost use Rattle.fields.specs.Answers.{told};
+ghost use Rattle.hands.specs.Handing.{handed_as, handed};
+ghost use Rattle.hands.specs.Inside.{hand_told};
 
-use fields::{Answer, numbers};
+use fields::Refusal;
 use table::{Entry, Table};
 
-// The number of a hand-out into a slice of room entries, where the tests before it gave a number.
-fn hand_no(t: Table, room: usize, before: u8) -> u8
-    ensures { result ≡ hand_no 256 t room before }
+// How many entries are handed out into a slice of room entries: all, unless the tests before it refused, or it is refused.
+#[tactic(auto, unfolding(crate::specs::Inside::hand_told, crate::specs::Handing::hand_no))]
+fn to_hand(t: Table, room: usize, before: Result<(), Refusal>) -> Result<usize, Refusal>
+    ensures { told result ≡ hand_told 256 t room (number_in before) }
 {
-    if before != numbers::ACCEPTED {
-        return before;
-    }
+    before?;
     if !table::well_formed(t) {
-        return numbers::OUT_OF_FORM;
+        return Err(Refusal::OutOfForm);
     }
     if room < t.count {
-        return numbers::SLICE_SHORT;
+        return Err(Refusal::SliceShort);
     }
-    numbers::ACCEPTED
-}
-
-// How many entries are handed out: all, or none.
-fn to_hand(t: Table, room: usize, before: u8) -> usize
-    ensures { result ≡ to_hand 256 t room before }
-{
-    let no = hand_no(t, room, before);
-    if no != numbers::ACCEPTED {
-        return 0;
-    }
-    t.count
-}
-
-fn reply(t: Table, room: usize, before: u8) -> Answer
-    ensures { result ≡ reply_of 256 t room before }
-{
-    let no = hand_no(t, room, before);
-    if no != numbers::ACCEPTED {
-        return Answer::Refused(no);
-    }
-    let c = t.count;
-    Answer::Accepted(c)
-}
-
-fn entry_at(t: Table, i: usize) -> Entry
-    requires { i < 256 }
-    ensures { result ≡ get_or t.entries i blank }
-{
-    let e = t.entries[i];
-    e
+    Ok(t.count)
 }
 
 // All entries, or none where it is refused or the tests before it refused; what stands after them stays.
-pub fn hand_after(t: Table, out: &mut [Entry], before: u8) -> Answer
-    ensures { handed_as result out.new ≡ handed 256 t out.old before }
+pub fn hand_after(
+    t: Table,
+    out: &mut [Entry],
+    before: Result<(), Refusal>,
+) -> Result<usize, Refusal>
+    ensures { handed_as result out.new ≡ handed 256 t out.old (number_in before) }
 {
-    let n = to_hand(t, out.len(), before);
-    let mut i = 0;
-    while i < n {
-        out[i] = entry_at(t, i);
-        i += 1;
-    }
-    reply(t, out.len(), before)
+    let n = to_hand(t, out.len(), before)?;
+    out[..n].copy_from_slice(&t.entries[..n]);
+    Ok(n)
 }
 
 // Of a table by itself.
-pub fn hand_out(t: Table, out: &mut [Entry]) -> Answer
+pub fn hand_out(t: Table, out: &mut [Entry]) -> Result<usize, Refusal>
     ensures { handed_as result out.new ≡ handed 256 t out.old 0 }
 {
-    hand_after(t, out, numbers::ACCEPTED)
+    hand_after(t, out, Ok(()))
 }

@@ -7,33 +7,39 @@ ghost use Rattle.std.specs.Prelude.{◌≡◌, get_or};
 ghost use Rattle.world.specs.Calls.{Begin, Flush, Commit, Rollback, Advance};
 ghost use Rattle.opening.specs.Opening.{verdict_told};
 ghost use Rattle.lent.specs.Lent.{called_lent};
-ghost use Rattle.words.specs.Words.{lent_in, standing, standing_of};
+ghost use Rattle.keyon.specs.Keyon.{waking_of};
+ghost use Rattle.words.specs.Words.{head_in, words_of, lent_in, standing, standing_of};
 ghost use Rattle.hostcalls.specs.Hosted.{opened, hosted_open};
 
-use fields::{TransactionId, numbers};
-use opening::Verdict;
+use fields::{Refusal, TransactionId, numbers};
+use lent::Head;
+use opening::Unopened;
 use world::Lens;
 
-// The database's length, where images are laid; else 0.
-fn told_of(v: Verdict) -> usize
-    ensures { result ≡ get_or (verdict_told v).values 0 0 }
+// What an opening answers, for a host: the words of the head that it leaves, the database's length where images are laid, else 0, and its number.
+fn answer_open(r: Result<Head, Unopened>, head: &mut [u64; 12], told: &mut usize) -> u8
+    ensures number { result ≡ (verdict_told (waking_of (head_in head.old) r).verdict).number }
+    ensures told { told.new ≡ get_or (verdict_told (waking_of (head_in head.old) r).verdict).values 0 0 }
+    ensures words { head.new ≡ words_of (waking_of (head_in head.old) r).head }
 {
-    match v {
-        Verdict::Accepted(db) => db,
-        Verdict::Refused(_) => 0,
-        Verdict::Torn(db) => db,
-        Verdict::Unknown(db) => db,
-    }
-}
-
-fn number_of(v: Verdict) -> u8
-    ensures { result ≡ (verdict_told v).number }
-{
-    match v {
-        Verdict::Accepted(_) => numbers::ACCEPTED,
-        Verdict::Refused(number) => number,
-        Verdict::Torn(_) => numbers::TORN,
-        Verdict::Unknown(_) => numbers::UNKNOWN_TAG,
+    match r {
+        Ok(after) => {
+            words::put_head(head, after);
+            *told = after.lens.db;
+            numbers::ACCEPTED
+        }
+        Err(Unopened::Refused(refusal)) => {
+            *told = 0;
+            refusal.number()
+        }
+        Err(Unopened::Torn(db)) => {
+            *told = db;
+            Refusal::Torn.number()
+        }
+        Err(Unopened::Unknown(db)) => {
+            *told = db;
+            Refusal::UnknownTag.number()
+        }
     }
 }
 
@@ -61,11 +67,7 @@ pub fn nyotmelang_pager_open(
     };
     let h = words::head_in(&*head);
     let r = keyon::open(lens, h, rows, resident, touched, log, db, clog, frames);
-    let after = r.head;
-    words::put_head(head, after);
-    let verdict = r.verdict;
-    *told = told_of(verdict);
-    number_of(verdict)
+    answer_open(r, head, told)
 }
 
 pub fn nyotmelang_pager_begin(
@@ -93,9 +95,7 @@ pub fn nyotmelang_pager_begin(
         clog,
         frames,
     );
-    let after = r.head;
-    words::put_head(head, after);
-    r.number
+    words::answer(head, r)
 }
 
 pub fn nyotmelang_pager_flush(
@@ -113,9 +113,7 @@ pub fn nyotmelang_pager_flush(
 {
     let h = words::head_in(&*head);
     let r = begins::flush(h, rows, resident, touched, page, log, db, clog, frames);
-    let after = r.head;
-    words::put_head(head, after);
-    r.number
+    words::answer(head, r)
 }
 
 pub fn nyotmelang_pager_commit(
@@ -132,9 +130,7 @@ pub fn nyotmelang_pager_commit(
 {
     let h = words::head_in(&*head);
     let r = ends::commit(h, rows, resident, touched, log, db, clog, frames);
-    let after = r.head;
-    words::put_head(head, after);
-    r.number
+    words::answer(head, r)
 }
 
 pub fn nyotmelang_pager_rollback(
@@ -152,9 +148,7 @@ pub fn nyotmelang_pager_rollback(
 {
     let h = words::head_in(&*head);
     let r = ends::rollback(h, rows, resident, touched, list, log, db, clog, frames);
-    let after = r.head;
-    words::put_head(head, after);
-    r.number
+    words::answer(head, r)
 }
 
 pub fn nyotmelang_pager_advance(
@@ -182,7 +176,5 @@ pub fn nyotmelang_pager_advance(
         clog,
         frames,
     );
-    let after = r.head;
-    words::put_head(head, after);
-    r.number
+    words::answer(head, r)
 }

@@ -4,8 +4,7 @@ use Rattle.fields.specs.Answers.{Told}
 use Rattle.world.specs.declared.Lens.{Lens}
 use Rattle.world.specs.World.{lens_of}
 use Rattle.stores.specs.Room.{Carried}
-use Rattle.ready.specs.declared.Counted.{Counted}
-use Rattle.ready.specs.Ready.{ToldCall}
+use Rattle.ready.specs.Ready.{Counted, ToldCall}
 use Rattle.words.specs.Values.{said, four}
 
 -- ---- cut

@@ -5,16 +5,29 @@
 #![tactic(auto)]
 
 ghost use Rattle.std.specs.Prelude.{◌≡◌, [], ◌∷◌};
+ghost use Rattle.fields.specs.Refusals.{number_in};
 ghost use Rattle.world.specs.Calls.{Begin, Flush, Commit, Rollback, Advance};
-ghost use Rattle.ready.specs.Ready.{told_by};
+ghost use Rattle.stores.specs.Room.{cut};
+ghost use Rattle.ready.specs.Ready.{counted, told_by};
 ghost use Rattle.acts.specs.Partly.{cut_lent, counted_lent, told_lent};
 ghost use Rattle.words.specs.Values.{said};
 ghost use Rattle.words.specs.Words.{lent_in};
 ghost use Rattle.hostcuts.specs.Cuts.{stopped, lens_given, stopped_at, count_given, told_given};
 
-use fields::TransactionId;
-use ready::{Counted, Told};
-use stores::{Cut, Telling};
+use fields::{Refusal, TransactionId, numbers};
+use stores::Telling;
+use world::Lens;
+
+// ---- the answers
+
+fn number_of<T: Copy>(r: Result<T, Refusal>) -> u8
+    ensures { result ≡ number_in r }
+{
+    match r {
+        Ok(_) => numbers::ACCEPTED,
+        Err(refusal) => refusal.number(),
+    }
+}
 
 // ---- the values
 
@@ -25,31 +38,36 @@ fn give(values: &mut [u64; 4], a: u64, b: u64, c: u64)
     *values = [a, b, c, 0];
 }
 
-fn give_cut(r: Cut, values: &mut [u64; 4]) -> u8
-    ensures { said result values.new ≡ lens_given r.number r.lens }
+// Of a refused call the lengths of before it.
+fn give_cut(r: Result<Lens, Refusal>, before: Lens, values: &mut [u64; 4]) -> u8
+    ensures { said result values.new ≡ lens_given (cut before r).number (cut before r).lens }
 {
-    let n = r.lens;
+    let n = r.unwrap_or(before);
     give(values, n.log as u64, n.db as u64, n.clog as u64);
-    r.number
+    number_of(r)
 }
 
-fn give_count(r: Counted, values: &mut [u64; 4]) -> u8
-    ensures { said result values.new ≡ count_given r }
+fn give_count(r: Result<usize, Refusal>, values: &mut [u64; 4]) -> u8
+    ensures { said result values.new ≡ count_given (counted r) }
 {
-    give(values, r.stores as u64, 0, 0);
-    r.number
+    give(values, r.unwrap_or(0) as u64, 0, 0);
+    number_of(r)
 }
 
-fn give_told(r: Told, values: &mut [u64; 4]) -> u8
+fn give_told(r: Result<Option<Telling>, Refusal>, values: &mut [u64; 4]) -> u8
     ensures { said result values.new ≡ told_given (told_by r) }
 {
-    let t = r.telling;
-    let Telling::Store(kind, offset, size) = t else {
+    let Some(t) = r.unwrap_or(None) else {
         give(values, 0, 0, 0);
-        return r.number;
+        return number_of(r);
     };
-    give(values, kind as u64, offset as u64, size as u64);
-    r.number
+    give(
+        values,
+        t.kind.number() as u64,
+        t.offset as u64,
+        t.size as u64,
+    );
+    number_of(r)
 }
 
 // ---- begin
@@ -82,7 +100,7 @@ pub fn nyotmelang_pager_begin_to(
         clog,
         frames,
     );
-    give_cut(r, values)
+    give_cut(r, h.lens, values)
 }
 
 pub fn nyotmelang_pager_begin_count(
@@ -164,7 +182,7 @@ pub fn nyotmelang_pager_flush_to(
 {
     let h = words::head_in(head);
     let r = begins::flush_to(h, rows, resident, touched, page, k, log, db, clog, frames);
-    give_cut(r, values)
+    give_cut(r, h.lens, values)
 }
 
 pub fn nyotmelang_pager_flush_count(
@@ -224,7 +242,7 @@ pub fn nyotmelang_pager_commit_to(
 {
     let h = words::head_in(head);
     let r = ends::commit_to(h, rows, resident, touched, k, log, db, clog, frames);
-    give_cut(r, values)
+    give_cut(r, h.lens, values)
 }
 
 pub fn nyotmelang_pager_commit_count(
@@ -283,7 +301,7 @@ pub fn nyotmelang_pager_rollback_to(
 {
     let h = words::head_in(head);
     let r = ends::rollback_to(h, rows, resident, touched, list, k, log, db, clog, frames);
-    give_cut(r, values)
+    give_cut(r, h.lens, values)
 }
 
 pub fn nyotmelang_pager_rollback_count(
@@ -355,7 +373,7 @@ pub fn nyotmelang_pager_advance_to(
         clog,
         frames,
     );
-    give_cut(r, values)
+    give_cut(r, h.lens, values)
 }
 
 pub fn nyotmelang_pager_advance_count(

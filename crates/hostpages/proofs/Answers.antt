@@ -2,7 +2,7 @@
 use mathlib.Core.Path.{◌≡◌, ap}
 use mathlib.Core.List.{List}
 use Prim.Native.Nat.{ℕ}
-use Rattle.still.specs.declared.EntryCount.{EntryCount}
+use Rattle.quiet.specs.Entries.{EntryCount}
 use Rattle.words.specs.Words.{Standing}
 use Rattle.hostpages.specs.Hosted.{Hosted, hosted, TableTold, table_told}
 

@@ -10,20 +10,20 @@ use Rattle.sorted.specs.Sorted.{laid_on}
 use Rattle.world.specs.Run.{decided}
 use Rattle.lent.specs.declared.Head.{Head}
 use Rattle.lent.specs.Lent.{Lent, leaving, lent}
-use Rattle.still.specs.declared.EntryCount.{EntryCount}
 use Rattle.still.specs.Still.{Beside, beside}
-use Rattle.still.specs.Entries.{EntryTold, entries_counted}
+use Rattle.quiet.specs.Entries.{EntryCount, EntryTold}
+use Rattle.still.specs.Entries.{entries_counted}
 use Rattle.words.specs.Values.{said}
 use Rattle.words.specs.Words.{head_in, words_of, standing, standing_of}
 use Rattle.hostpages.specs.Hosted.{hosted, hosted_by, entry_values, entry_said, TableTold, table_told, hosted_table}
 
--- f is what the call hands out and leaves for a head
-pub stood-beside : {A B : Type 0} (to : A → B) (f : Head → Beside A) (h₀ h : Head) (ws₀ ws : List ℕ) (a : A) (b : B) (n : ℕ) (rows : List (List ℕ))
-    (resident touched log db clog frames : List ℕ) → h₀ ≡ head_in ws₀ → ws ≡ words_of h → b ≡ to a →
+-- f is what the call hands out and leaves for a head; m is the number that the host gets
+pub stood-beside : {A B : Type 0} (to : A → B) (f : Head → Beside A) (h₀ h : Head) (ws₀ ws : List ℕ) (a : A) (b : B) (n m : ℕ) (rows : List (List ℕ))
+    (resident touched log db clog frames : List ℕ) → h₀ ≡ head_in ws₀ → m ≡ n → ws ≡ words_of h → b ≡ to a →
     beside a (leaving n (lent h rows resident touched) log db clog frames) ≡ f h₀ →
-    hosted b (standing n ws rows resident touched log db clog frames) ≡ hosted_by to (f (head_in ws₀))
+    hosted b (standing m ws rows resident touched log db clog frames) ≡ hosted_by to (f (head_in ws₀))
 unfolding hosted_by standing_of
-stood-beside to f h₀ h ws₀ ws a b n rows resident touched log db clog frames e w t q = rw (w, t) (ap (hosted_by to) (q ∙ ap f e))
+stood-beside to f h₀ h ws₀ ws a b n m rows resident touched log db clog frames e k w t q = rw (k, w, t) (ap (hosted_by to) (q ∙ ap f e))
 
 -- ---- the table
 

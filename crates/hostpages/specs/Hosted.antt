@@ -8,7 +8,8 @@ use Rattle.rows.specs.Rows.{row_of}
 use Rattle.world.specs.Run.{decided}
 use Rattle.lent.specs.Lent.{Lent}
 use Rattle.still.specs.Still.{Beside, Taken}
-use Rattle.still.specs.Entries.{EntryTold, entries_counted}
+use Rattle.quiet.specs.Entries.{EntryTold}
+use Rattle.still.specs.Entries.{entries_counted}
 use Rattle.words.specs.Values.{said}
 use Rattle.words.specs.Words.{Standing, standing_of}
 

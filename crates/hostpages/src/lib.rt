@@ -5,18 +5,17 @@
 
 ghost use Rattle.std.specs.Prelude.{◌≡◌, ◌≤◌, length, take};
 ghost use Rattle.sorted.specs.Sorted.{laid_on};
-ghost use Rattle.rows.specs.Rows.{row_of};
 ghost use Rattle.world.specs.Calls.{Install, Write};
 ghost use Rattle.lent.specs.Lent.{called_lent};
 ghost use Rattle.still.specs.Still.{id_allocated, page_allocated, page_read, uninstalled};
-ghost use Rattle.still.specs.Entries.{entries_counted, entries_in, entry_read};
+ghost use Rattle.quiet.specs.Entries.{entries_in};
+ghost use Rattle.still.specs.Entries.{entries_counted, entry_read};
 ghost use Rattle.words.specs.Values.{said};
 ghost use Rattle.words.specs.Words.{lent_in, standing, standing_of};
 ghost use Rattle.hostpages.specs.Hosted.{hosted, hosted_by, itself, id_told, gone, gone_told, entry_values, entry_said, table_told, hosted_table};
 
-use fields::{TransactionId, numbers};
-use still::EntryAt;
-use table::{Entry, Status};
+use fields::{Refusal, TransactionId, numbers};
+use table::Entry;
 
 // ---- pages
 
@@ -38,9 +37,7 @@ pub fn nyotmelang_pager_write_page(
     let r = still::write_page(
         h, rows, resident, touched, page, bytes, log, db, clog, frames,
     );
-    let after = r.head;
-    words::put_head(head, after);
-    r.number
+    words::answer(head, r)
 }
 
 // A refusal leaves the host's bytes as they are.
@@ -62,9 +59,7 @@ pub fn nyotmelang_pager_read_page(
     let r = still::read_page(
         h, rows, resident, touched, page, bytes, log, db, clog, frames,
     );
-    let after = r.head;
-    words::put_head(head, after);
-    r.number
+    words::answer(head, r)
 }
 
 // ---- a transaction
@@ -96,9 +91,7 @@ pub fn nyotmelang_pager_install(
         clog,
         frames,
     );
-    let after = r.head;
-    words::put_head(head, after);
-    r.number
+    words::answer(head, r)
 }
 
 // The values are 1 where a transaction was in, its id, how many pages, 0; or four 0. Its pages go over the front of out, which a refusal leaves as it is.
@@ -117,13 +110,17 @@ pub fn nyotmelang_pager_uninstall(
     ensures { hosted (gone values.new out.new) (standing result head.new rows.new resident.new touched.new log.now db.now clog.now frames.now) ≡ hosted_by gone_told (uninstalled 4096 out.old (lent_in head.old rows.old resident.old touched.old) log.now db.now clog.now frames.now) }
 {
     let h = words::head_in(&*head);
-    let r = still::uninstall(h, rows, resident, touched, out, log, db, clog, frames);
-    let after = r.head;
-    words::put_head(head, after);
-    let id = r.id;
-    let count = r.count as u64;
-    *values = [r.held, id.0, count, 0];
-    r.number
+    match still::uninstall(h, rows, resident, touched, out, log, db, clog, frames) {
+        Ok(x) => {
+            let gone = x.0;
+            *values = [gone.held, gone.id.0, gone.count as u64, 0];
+            words::answer(head, Ok(x.1))
+        }
+        Err(refusal) => {
+            *values = [0; 4];
+            words::answer(head, Err(refusal))
+        }
+    }
 }
 
 // ---- an id, a page
@@ -142,12 +139,17 @@ pub fn nyotmelang_pager_allocate_id(
     ensures { hosted id.new (standing result head.new rows.new resident.new touched.new log.now db.now clog.now frames.now) ≡ hosted_by id_told (id_allocated 4096 (lent_in head.old rows.old resident.old touched.old) log.now db.now clog.now frames.now) }
 {
     let h = words::head_in(&*head);
-    let r = still::allocate_id(h, rows, resident, touched, log, db, clog, frames);
-    let after = r.head;
-    words::put_head(head, after);
-    let next = r.id;
-    *id = next.0;
-    r.number
+    match still::allocate_id(h, rows, resident, touched, log, db, clog, frames) {
+        Ok(x) => {
+            let next = x.0;
+            *id = next.0;
+            words::answer(head, Ok(x.1))
+        }
+        Err(refusal) => {
+            *id = 0;
+            words::answer(head, Err(refusal))
+        }
+    }
 }
 
 pub fn nyotmelang_pager_allocate_page(
@@ -164,11 +166,16 @@ pub fn nyotmelang_pager_allocate_page(
     ensures { hosted page.new (standing result head.new rows.new resident.new touched.new log.now db.now clog.now frames.now) ≡ hosted_by itself (page_allocated 4096 (lent_in head.old rows.old resident.old touched.old) log.now db.now clog.now frames.now) }
 {
     let h = words::head_in(&*head);
-    let r = still::allocate_page(h, rows, resident, touched, log, db, clog, frames);
-    let after = r.head;
-    words::put_head(head, after);
-    *page = r.page;
-    r.number
+    match still::allocate_page(h, rows, resident, touched, log, db, clog, frames) {
+        Ok(x) => {
+            *page = x.0;
+            words::answer(head, Ok(x.1))
+        }
+        Err(refusal) => {
+            *page = 0;
+            words::answer(head, Err(refusal))
+        }
+    }
 }
 
 // ---- the table
@@ -187,31 +194,28 @@ pub fn nyotmelang_pager_entry_count(
     ensures { record { number = result; entries = entries.new } ≡ entries_counted 4096 (lent_in head.now rows.now resident.now touched.now) log.now db.now clog.now frames.now }
 {
     let h = words::head_in(head);
-    let n = still::entry_count(h, rows, resident, touched, log, db, clog, frames);
-    *entries = n.entries;
-    n.number
-}
-
-fn row_of(e: Entry) -> [u64; 3]
-    ensures { result ≡ row_of e }
-{
-    let id = e.id;
-    let status = e.status;
-    match status {
-        Status::Active => [id.0, 0, 0],
-        Status::Committed(time) => [id.0, 1, time.0],
-        Status::Aborted => [id.0, 2, 0],
+    match still::entry_count(h, rows, resident, touched, log, db, clog, frames) {
+        Ok(all) => {
+            *entries = all;
+            numbers::ACCEPTED
+        }
+        Err(refusal) => {
+            *entries = 0;
+            refusal.number()
+        }
     }
 }
 
-fn values_of(e: EntryAt) -> [u64; 4]
+fn values_of(e: Option<Entry>) -> [u64; 4]
     ensures { result ≡ entry_values (entries_in e) }
 {
-    let EntryAt::Is(x) = e else {
-        return [0, 0, 0, 0];
-    };
-    let row = row_of(x);
-    [1, row[0], row[1], row[2]]
+    match e {
+        Some(x) => {
+            let row = rows::row_of(x.id, x.status);
+            [1, row[0], row[1], row[2]]
+        }
+        None => [0; 4],
+    }
 }
 
 // The values are 1 and the entry's id, tag and time; or four 0 past the last.
@@ -230,10 +234,16 @@ pub fn nyotmelang_pager_entry(
     ensures { said result values.new ≡ entry_said (entry_read 4096 i (lent_in head.now rows.now resident.now touched.now) log.now db.now clog.now frames.now) }
 {
     let h = words::head_in(head);
-    let n = still::entry_at(h, rows, resident, touched, i, log, db, clog, frames);
-    let e = n.entry;
-    *values = values_of(e);
-    n.number
+    match still::entry_at(h, rows, resident, touched, i, log, db, clog, frames) {
+        Ok(e) => {
+            *values = values_of(e);
+            numbers::ACCEPTED
+        }
+        Err(refusal) => {
+            *values = values_of(None);
+            refusal.number()
+        }
+    }
 }
 
 // The first n rows over the front of out.
@@ -241,14 +251,8 @@ fn hand_out(rows: &[[u64; 3]; 256], n: usize, out: &mut [[u64; 3]])
     requires { n ≤ length out.old }
     ensures { out.new ≡ laid_on out.old (take n rows.now) }
 {
-    // Nothing reads this slice: with it the proof knows that there are 256 rows.
-    let all = &rows[..];
-    let k = fields::smaller(n, 256);
-    let mut i = 0;
-    while i < k {
-        out[i] = rows[i];
-        i += 1;
-    }
+    let k = n.min(256);
+    out[..k].copy_from_slice(&rows[..k]);
 }
 
 // All rows over the front of out; 13, and nothing stored, where it has too few places.
@@ -268,14 +272,14 @@ pub fn nyotmelang_pager_table(
 {
     *entries = 0;
     let h = words::head_in(head);
-    let all = still::entry_count(h, rows, resident, touched, log, db, clog, frames);
-    if all.number != numbers::ACCEPTED {
-        return all.number;
+    let n = match still::entry_count(h, rows, resident, touched, log, db, clog, frames) {
+        Ok(n) => n,
+        Err(refusal) => return refusal.number(),
+    };
+    if out.len() < n {
+        return Refusal::SliceShort.number();
     }
-    if out.len() < all.entries {
-        return numbers::SLICE_SHORT;
-    }
-    hand_out(rows, all.entries, out);
-    *entries = all.entries;
+    hand_out(rows, n, out);
+    *entries = n;
     numbers::ACCEPTED
 }

@@ -14,8 +14,7 @@ use Rattle.fields.specs.Files.{content, room}
 use Rattle.table.specs.declared.Status.{Status}
 use Rattle.table.specs.declared.Status.TheVariants.{Committed}
 use Rattle.table.specs.declared.Entry.{Entry}
-use Rattle.table.specs.declared.Known.{Known}
-use Rattle.table.specs.declared.Known.TheVariants.{Is, Absent}
+use Rattle.std.specs.Prelude.{Option, Some, None}
 use Rattle.table.specs.Entries.{ascending, status_of}
 use Rattle.clog.specs.Slots.{slot_of, valid_clog}
 use Rattle.clog.proofs.TableLaws.{known_as}
@@ -30,13 +29,13 @@ use Rattle.keyoff.proofs.Images.{AllRest}
 use Rattle.keyoff.proofs.Page.{Stands}
 
 -- The statuses, id by id: L the log's last word, C what the clog's slot loads as, T the table in memory. size is that of the clog's buffer
-pub record Marks (L C T : ℕ → Known) (mark size : ℕ) : Type 0 where
-  pub untimed : (t : ℕ) (u : CommitTime) → L t ≡ Is (Committed u) → ⊥
-  pub logged : (t : ℕ) (s : Status) → L t ≡ Is s → T t ≡ Absent → ⊥
-  pub slotted : (t : ℕ) → T t ≡ Absent → C t ≡ Absent
-  pub last : (t : ℕ) → mark ≤ t → (s : Status) → L t ≡ Is s → T t ≡ Is s
+pub record Marks (L C T : ℕ → Option Status) (mark size : ℕ) : Type 0 where
+  pub untimed : (t : ℕ) (u : CommitTime) → L t ≡ Some (Committed u) → ⊥
+  pub logged : (t : ℕ) (s : Status) → L t ≡ Some s → T t ≡ None → ⊥
+  pub slotted : (t : ℕ) → T t ≡ None → C t ≡ None
+  pub last : (t : ℕ) → mark ≤ t → (s : Status) → L t ≡ Some s → T t ≡ Some s
   pub slots : (t : ℕ) → mark ≤ t → C t ≡ kept (T t)
-  pub fits : (t : ℕ) (s : Status) → T t ≡ Is s → 8 + t / 4 < size
+  pub fits : (t : ℕ) (s : Status) → T t ≡ Some s → 8 + t / 4 < size
 
 -- frames is the size of the frame buffer
 pub record Inv (P : ℕ) (f : Files) (frames : ℕ) (table : List Entry) (mark : ℕ) : Type 0 where

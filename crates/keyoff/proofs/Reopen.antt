@@ -13,8 +13,7 @@ use Rattle.wal.specs.Records.{Ending, ending_no}
 use Rattle.table.specs.declared.Status.{Status}
 use Rattle.table.specs.declared.Status.TheVariants.{Active, Committed, Aborted}
 use Rattle.table.specs.declared.Entry.{Entry}
-use Rattle.table.specs.declared.Known.{Known}
-use Rattle.table.specs.declared.Known.TheVariants.{Is, Absent}
+use Rattle.std.specs.Prelude.{Option, Some, None}
 use Rattle.table.specs.Entries.{status_of}
 use Rattle.clog.specs.Slots.{slot_of}
 use Rattle.clog.proofs.TableLaws.{known_as, valid-long}
@@ -33,17 +32,17 @@ use Rattle.keyoff.proofs.Invariant.{Inv, Kept}
 -- ---- one id: the log's word l, what the slot loads as, and the status held
 
 -- where the log has no word the slot gives it; else its word is the status held, and that is no commit
-pub joined-kept : (l c h : Known) → ((u : CommitTime) → l ≡ Is (Committed u) → ⊥) → ((s : Status) → l ≡ Is s → h ≡ Is s) → c ≡ kept h →
+pub joined-kept : (l c h : Option Status) → ((u : CommitTime) → l ≡ Some (Committed u) → ⊥) → ((s : Status) → l ≡ Some s → h ≡ Some s) → c ≡ kept h →
     or_known (settled_known l) c ≡ kept h
-joined-kept Absent c h u w e = e
-joined-kept (Is Active) c h u w e = rw (w Active refl)
-joined-kept (Is (Committed t)) c h u w e = absurd (u t refl)
-joined-kept (Is Aborted) c h u w e = rw (w Aborted refl)
+joined-kept None c h u w e = e
+joined-kept (Some Active) c h u w e = rw (w Active refl)
+joined-kept (Some (Committed t)) c h u w e = absurd (u t refl)
+joined-kept (Some Aborted) c h u w e = rw (w Aborted refl)
 
 -- and an id that is not held is in neither
-pub joined-none : (l c h : Known) → ((s : Status) → l ≡ Is s → h ≡ Absent → ⊥) → (h ≡ Absent → c ≡ Absent) → h ≡ Absent → or_known (settled_known l) c ≡ Absent
-joined-none Absent c h u w e = w e
-joined-none (Is s) c h u w e = absurd (u s refl e)
+pub joined-none : (l c h : Option Status) → ((s : Status) → l ≡ Some s → h ≡ None → ⊥) → (h ≡ None → c ≡ None) → h ≡ None → or_known (settled_known l) c ≡ None
+joined-none None c h u w e = w e
+joined-none (Some s) c h u w e = absurd (u s refl e)
 
 module _ (P : ℕ) (big : 36 ≤ P) (f : Files) (frames : List ℕ) (table : List Entry) (mark : ℕ) (v : Inv P f (length frames) table mark) where
   -- ---- the table
@@ -54,7 +53,7 @@ module _ (P : ℕ) (big : 36 ≤ P) (f : Files) (frames : List ℕ) (table : Lis
   same : (t : ℕ) → mark ≤ t → status_of t (full_table P f) ≡ kept (status_of t table)
   same t h = found t ∙ joined-kept (last_word t (records P f.log)) _ (status_of t table) (v.marks.untimed t) (v.marks.last t h) (v.marks.slots t h)
 
-  no_more : (t : ℕ) → status_of t table ≡ Absent → status_of t (full_table P f) ≡ Absent
+  no_more : (t : ℕ) → status_of t table ≡ None → status_of t (full_table P f) ≡ None
   no_more t h = found t ∙ joined-none (last_word t (records P f.log)) _ (status_of t table) (v.marks.logged t) (v.marks.slotted t) h
 
   full-few : length (full_table P f) ≤ 256

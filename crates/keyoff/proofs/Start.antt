@@ -8,8 +8,7 @@ use lib.ListN.{length}
 use Rattle.fields.specs.Files.{content, room}
 use Rattle.table.specs.declared.Status.{Status}
 use Rattle.table.specs.declared.Status.TheVariants.{Active, Committed, Aborted}
-use Rattle.table.specs.declared.Known.{Known}
-use Rattle.table.specs.declared.Known.TheVariants.{Is, Absent}
+use Rattle.std.specs.Prelude.{Option, Some, None}
 use Rattle.table.specs.Entries.{status_of}
 use Rattle.table.proofs.Facts.{absent-not}
 use Rattle.clog.specs.Slots.{code_of, slot_of, valid_clog}
@@ -32,23 +31,23 @@ use Rattle.keyoff.proofs.Typed.{stored-field}
 use Rattle.keyoff.proofs.Invariant.{Inv, Kept}
 
 -- what a status becomes in the clog and back
-pub kept-code : (s : Status) → known_as (code_of s) ≡ kept (Is s)
+pub kept-code : (s : Status) → known_as (code_of s) ≡ kept (Some s)
 kept-code Active = known-active
 kept-code (Committed t) = known-committed t
 kept-code Aborted = known-aborted
 
-kept-is : (k : Known) → formed.kept k ≡ kept k
-kept-is (Is s) = kept-code s
-kept-is Absent = refl
+kept-is : (k : Option Status) → formed.kept k ≡ kept k
+kept-is (Some s) = kept-code s
+kept-is None = refl
 
 -- a status that is held is kept as one
-kept_there : (s : Status) → (t : Status) × (kept (Is s) ≡ Is t)
+kept_there : (s : Status) → (t : Status) × (kept (Some s) ≡ Some t)
 kept_there Active = (Aborted, refl)
 kept_there (Committed t) = (Committed (record { 0 = 0 }), refl)
 kept_there Aborted = (Aborted, refl)
 
 -- a slot that loads as a status is not 0
-slot-there : (c : ℕ) (s : Status) → known_as c ≡ Is s → c ≡ 0 → ⊥
+slot-there : (c : ℕ) (s : Status) → known_as c ≡ Some s → c ≡ 0 → ⊥
 slot-there c s h e = absent-not (known_as c) s (rw e) h
 
 module _ (P : ℕ) (f : Files) (frames : List ℕ) (p : Passed P f frames) (has : has_meta P (content (replayed P f)) ≡ true) where
@@ -71,7 +70,7 @@ module _ (P : ℕ) (f : Files) (frames : List ℕ) (p : Passed P f frames) (has 
       clog-word (with_meta P f frames).files.clog k ∙ rw clog-valid in
       sym e ∙ agrees k
 
-  ids-fit : (k : ℕ) (s : Status) → status_of k (full_table P f) ≡ Is s → 8 + k / 4 < room (with_meta P f frames).files.clog
+  ids-fit : (k : ℕ) (s : Status) → status_of k (full_table P f) ≡ Some s → 8 + k / 4 < room (with_meta P f frames).files.clog
   ids-fit k s h =
       let c = (with_meta P f frames).files.clog in
       let n = slot-there (slot_of 8 (content c) k) (kept_there s).0 (slots-are k ∙ rw h (kept_there s).1) in
@@ -82,7 +81,7 @@ module _ (P : ℕ) (f : Files) (frames : List ℕ) (p : Passed P f frames) (has 
   unfolding with_meta
   log-left = cut-records P f.log p.log-room
 
-  silent : (t : ℕ) (s : Status) → last_word t (records P (with_meta P f frames).files.log) ≡ Is s → ⊥
+  silent : (t : ℕ) (s : Status) → last_word t (records P (with_meta P f frames).files.log) ≡ Some s → ⊥
   silent t s h = absent-not _ s (rw log-left (word_none t)) h
 
   module _ (page : Stands P (content (replayed P f)) (stored_mark (content (replayed P f)))) (small : stored_mark (content (replayed P f)) < 2 ^ 64) where

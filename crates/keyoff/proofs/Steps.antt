@@ -17,8 +17,7 @@ use Rattle.wal.proofs.RecordLaws.{Sound}
 use Rattle.table.specs.declared.Status.{Status}
 use Rattle.table.specs.declared.Status.TheVariants.{Active, Committed, Aborted}
 use Rattle.table.specs.declared.Entry.{Entry}
-use Rattle.table.specs.declared.Known.{Known}
-use Rattle.table.specs.declared.Known.TheVariants.{Is, Absent}
+use Rattle.std.specs.Prelude.{Option, Some, None}
 use Rattle.table.specs.Entries.{insert_entry, status_of}
 use Rattle.table.proofs.Facts.{set-ascending, status-set, status-kept, or_known, absent-not, no-status, own-status}
 use Rattle.clog.specs.Slots.{code_of, slot_of, valid_clog, set_slot, clear_slots}
@@ -44,38 +43,38 @@ use Rattle.keyoff.proofs.Start.{kept-code}
 -- ---- statuses, id by id
 
 -- one id takes a word, and no other changes
-abbrev pub Sets : (ℕ → Known) → (ℕ → Known) → ℕ → Known → Type 0
+abbrev pub Sets : (ℕ → Option Status) → (ℕ → Option Status) → ℕ → Option Status → Type 0
 Sets A B id k = (B id ≡ k) × ((t : ℕ) → (id ≡ t → ⊥) → B t ≡ A t)
 
-sets-at : (A B : ℕ → Known) (id t : ℕ) (k : Known) → Sets A B id k → id ≡ t → B t ≡ k
+sets-at : (A B : ℕ → Option Status) (id t : ℕ) (k : Option Status) → Sets A B id k → id ≡ t → B t ≡ k
 sets-at A B id t k s e = subst (λ (j : ℕ). B j ≡ k) e s.0
 
 -- clog and table take the status s of an id; the log says that of it or nothing, no commit, and of other ids no more than before
-module _ (L C T L' C' T' : ℕ → Known) (id : ℕ) (s : Status) (mark size : ℕ) (fit : 8 + id / 4 < size)
-    (clog : Sets C C' id (kept (Is s))) (table : Sets T T' id (Is s))
-    (here : (u : Status) → L' id ≡ Is u → Is u ≡ Is s) (plain : (u : CommitTime) → L' id ≡ Is (Committed u) → ⊥)
-    (elsewhere : (t : ℕ) → (id ≡ t → ⊥) → (u : Status) → L' t ≡ Is u → L t ≡ Is u) (m : Marks L C T mark size) where
-  untimed : (t : ℕ) → Equal id t → (u : CommitTime) → L' t ≡ Is (Committed u) → ⊥
-  untimed t (equal p) u h = plain u (subst (λ (j : ℕ). L' j ≡ Is (Committed u)) (sym p) h)
+module _ (L C T L' C' T' : ℕ → Option Status) (id : ℕ) (s : Status) (mark size : ℕ) (fit : 8 + id / 4 < size)
+    (clog : Sets C C' id (kept (Some s))) (table : Sets T T' id (Some s))
+    (here : (u : Status) → L' id ≡ Some u → Some u ≡ Some s) (plain : (u : CommitTime) → L' id ≡ Some (Committed u) → ⊥)
+    (elsewhere : (t : ℕ) → (id ≡ t → ⊥) → (u : Status) → L' t ≡ Some u → L t ≡ Some u) (m : Marks L C T mark size) where
+  untimed : (t : ℕ) → Equal id t → (u : CommitTime) → L' t ≡ Some (Committed u) → ⊥
+  untimed t (equal p) u h = plain u (subst (λ (j : ℕ). L' j ≡ Some (Committed u)) (sym p) h)
   untimed t (other n) u h = m.untimed t u (elsewhere t n (Committed u) h)
 
-  logged : (t : ℕ) → Equal id t → (u : Status) → L' t ≡ Is u → T' t ≡ Absent → ⊥
-  logged t (equal p) u h q = absent-not (T' t) s q (sets-at T T' id t (Is s) table p)
+  logged : (t : ℕ) → Equal id t → (u : Status) → L' t ≡ Some u → T' t ≡ None → ⊥
+  logged t (equal p) u h q = absent-not (T' t) s q (sets-at T T' id t (Some s) table p)
   logged t (other n) u h q = m.logged t u (elsewhere t n u h) (sym (table.1 t n) ∙ q)
 
-  slotted : (t : ℕ) → Equal id t → T' t ≡ Absent → C' t ≡ Absent
-  slotted t (equal p) q = absurd (absent-not (T' t) s q (sets-at T T' id t (Is s) table p))
+  slotted : (t : ℕ) → Equal id t → T' t ≡ None → C' t ≡ None
+  slotted t (equal p) q = absurd (absent-not (T' t) s q (sets-at T T' id t (Some s) table p))
   slotted t (other n) q = clog.1 t n ∙ m.slotted t (sym (table.1 t n) ∙ q)
 
-  last : (t : ℕ) → Equal id t → mark ≤ t → (u : Status) → L' t ≡ Is u → T' t ≡ Is u
-  last t (equal p) l u h = sets-at T T' id t (Is s) table p ∙ sym (here u (subst (λ (j : ℕ). L' j ≡ Is u) (sym p) h))
+  last : (t : ℕ) → Equal id t → mark ≤ t → (u : Status) → L' t ≡ Some u → T' t ≡ Some u
+  last t (equal p) l u h = sets-at T T' id t (Some s) table p ∙ sym (here u (subst (λ (j : ℕ). L' j ≡ Some u) (sym p) h))
   last t (other n) l u h = table.1 t n ∙ m.last t l u (elsewhere t n u h)
 
   slots : (t : ℕ) → Equal id t → mark ≤ t → C' t ≡ kept (T' t)
-  slots t (equal p) l = sets-at C C' id t (kept (Is s)) clog p ∙ sym (ap kept (sets-at T T' id t (Is s) table p))
+  slots t (equal p) l = sets-at C C' id t (kept (Some s)) clog p ∙ sym (ap kept (sets-at T T' id t (Some s) table p))
   slots t (other n) l = clog.1 t n ∙ m.slots t l ∙ sym (ap kept (table.1 t n))
 
-  fits : (t : ℕ) → Equal id t → (u : Status) → T' t ≡ Is u → 8 + t / 4 < size
+  fits : (t : ℕ) → Equal id t → (u : Status) → T' t ≡ Some u → 8 + t / 4 < size
   fits t (equal p) u h = rw p at fit
   fits t (other n) u h = m.fits t u (sym (table.1 t n) ∙ h)
 
@@ -90,7 +89,7 @@ module _ (L C T L' C' T' : ℕ → Known) (id : ℕ) (s : Status) (mark size : �
   }
 
 -- the slots under a higher mark go
-marks-cut : (L C T C' : ℕ → Known) (mark w size : ℕ) → mark ≤ w → ((t : ℕ) → t < w → C' t ≡ Absent) → ((t : ℕ) → w ≤ t → C' t ≡ C t) →
+marks-cut : (L C T C' : ℕ → Option Status) (mark w size : ℕ) → mark ≤ w → ((t : ℕ) → t < w → C' t ≡ None) → ((t : ℕ) → w ≤ t → C' t ≡ C t) →
     Marks L C T mark size → Marks L C' T w size
 marks-cut L C T C' mark w size h low high m = record {
   untimed = m.untimed;
@@ -101,7 +100,7 @@ marks-cut L C T C' mark w size h low high m = record {
   fits = m.fits;
 }
   where
-    go : (t : ℕ) → Order t w → T t ≡ Absent → C' t ≡ Absent
+    go : (t : ℕ) → Order t w → T t ≡ None → C' t ≡ None
     go t (less p) q = low t p
     go t (most p) q = high t p ∙ m.slotted t q
 
@@ -110,11 +109,11 @@ marks-cut L C T C' mark w size h low high m = record {
 abbrev pub entry : ℕ → Status → Entry
 entry id s = record { id = record { 0 = id }; status = s }
 
-pub table-sets : (id : ℕ) (s : Status) (l : List Entry) → Sets (λ t. status_of t l) (λ t. status_of t (insert_entry (entry id s) l)) id (Is s)
+pub table-sets : (id : ℕ) (s : Status) (l : List Entry) → Sets (λ t. status_of t l) (λ t. status_of t (insert_entry (entry id s) l)) id (Some s)
 table-sets id s l = (status-set (entry id s) l, λ t n. status-kept (entry id s) l t n)
 
 pub clog-sets : (id : ℕ) (s : Status) (f : File) → f.len ≤ room f → 8 + id / 4 < room f →
-    Sets (λ t. known_as (slot_of 8 (content f) t)) (λ t. known_as (slot_of 8 (content (set_slot 8 id (code_of s) f)) t)) id (kept (Is s))
+    Sets (λ t. known_as (slot_of 8 (content f) t)) (λ t. known_as (slot_of 8 (content (set_slot 8 id (code_of s) f)) t)) id (kept (Some s))
 clog-sets id s f h l = (
   ap known_as (record_same 8 id (code_of s) f h l (code-small s)) ∙ kept-code s,
   λ t n. ap known_as (record-other 8 id (code_of s) f h l (code-small s) t n),
@@ -182,16 +181,16 @@ module _ (P : ℕ) (big : 36 ≤ P) (f : Files) (frames : ℕ) (table : List Ent
     word : (t : ℕ) → last_word t (records P (append f.log (encode r))) ≡ or_known (status_of t (entry id s ∷ [])) (last_word t (records P f.log))
     word t = rw now-records (word_more t (records P f.log) r ∙ rw g.notes)
 
-    set_word : last_word id (records P (append f.log (encode r))) ≡ Is s
+    set_word : last_word id (records P (append f.log (encode r))) ≡ Some s
     set_word = word id ∙ rw (own-status (entry id s) [])
 
-    here : (u : Status) → last_word id (records P (append f.log (encode r))) ≡ Is u → Is u ≡ Is s
+    here : (u : Status) → last_word id (records P (append f.log (encode r))) ≡ Some u → Some u ≡ Some s
     here u h = sym h ∙ set_word
 
-    plain : (u : CommitTime) → last_word id (records P (append f.log (encode r))) ≡ Is (Committed u) → ⊥
-    plain u h = let e : Is s ≡ Is (Committed u) = sym set_word ∙ h in g.plain u cc
+    plain : (u : CommitTime) → last_word id (records P (append f.log (encode r))) ≡ Some (Committed u) → ⊥
+    plain u h = let e : Some s ≡ Some (Committed u) = sym set_word ∙ h in g.plain u cc
 
-    elsewhere : (t : ℕ) → (id ≡ t → ⊥) → (u : Status) → last_word t (records P (append f.log (encode r))) ≡ Is u → last_word t (records P f.log) ≡ Is u
+    elsewhere : (t : ℕ) → (id ≡ t → ⊥) → (u : Status) → last_word t (records P (append f.log (encode r))) ≡ Some u → last_word t (records P f.log) ≡ Some u
     elsewhere t n u h = sym (word t ∙ rw (other_word t (entry id s) n)) ∙ h
 
     pub inv-signed : length (insert_entry (entry id s) table) ≤ 256 →
@@ -342,7 +341,7 @@ module _ (P : ℕ) (big : 36 ≤ P) (f : Files) (frames : ℕ) (table : List Ent
       let fit : 0 * P + length (meta_page P next time mark) ≤ room g.db = omega arith in
       let c : SlotSet f.clog g.clog = rw gc (slot-set id s f.clog v.clog-len has) in
       let none : records P (header log_magic g.log) ≡ [] = cut-records P g.log l8 in
-      let silent : (t : ℕ) (u : Status) → last_word t (records P (header log_magic g.log)) ≡ Is u → ⊥ = λ t u h. absent-not _ u (rw none (word_none t)) h in
+      let silent : (t : ℕ) (u : Status) → last_word t (records P (header log_magic g.log)) ≡ Some u → ⊥ = λ t u h. absent-not _ u (rw none (word_none t)) h in
       record {
         log-size = omega (arith, v.log-size, hr);
         log-len = omega (arith, hr, hl);

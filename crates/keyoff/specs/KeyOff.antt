@@ -19,8 +19,7 @@ use Rattle.fields.specs.Bytes.{Bytes}
 use Rattle.fields.specs.Files.{content}
 use Rattle.table.specs.declared.Status.{Status}
 use Rattle.table.specs.declared.Status.TheVariants.{Active, Committed, Aborted}
-use Rattle.table.specs.declared.Known.{Known}
-use Rattle.table.specs.declared.Known.TheVariants.{Is, Absent}
+use Rattle.std.specs.Prelude.{Option, Some, None}
 use Rattle.table.specs.Entries.{status_of}
 use Rattle.meta.specs.Page.{has_meta, version, good_version}
 use Rattle.world.specs.declared.Slot.TheVariants.{Empty}
@@ -63,11 +62,11 @@ AllTyped (c ∷ cs) = Typed c × AllTyped cs
 -- ---- conclusions
 
 -- the status held, Active become Aborted and commit times 0; an id that is not held stays so
-abbrev pub kept : Known → Known
-kept Absent = Absent
-kept (Is Active) = Is Aborted
-kept (Is (Committed t)) = Is (Committed (record { 0 = 0 }))
-kept (Is Aborted) = Is Aborted
+abbrev pub kept : Option Status → Option Status
+kept None = None
+kept (Some Active) = Some Aborted
+kept (Some (Committed t)) = Some (Committed (record { 0 = 0 }))
+kept (Some Aborted) = Some Aborted
 
 -- of the memory old, and new after the next opening: every id at or above the mark
 abbrev pub SameStatuses : Mem → Mem → Type 0
@@ -75,7 +74,7 @@ SameStatuses old new = (t : ℕ) → old.mark.0 ≤ t → status_of t new.table 
 
 -- every id in the table is below the next one
 abbrev pub NextAbove : Mem → Type 0
-NextAbove m = (t : ℕ) (s : Status) → status_of t m.table ≡ Is s → t < m.next.0
+NextAbove m = (t : ℕ) (s : Status) → status_of t m.table ≡ Some s → t < m.next.0
 
 -- opening the files of w again with the same buffers
 abbrev pub reopened : ℕ → World → World

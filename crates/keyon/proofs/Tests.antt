@@ -10,6 +10,7 @@ use lib.Dec.{ltb}
 use borrow.Author.Tests.{lt-ltb, le-ltb}
 use Rattle.fields.proofs.Tests.{Order, less, most, order}
 use Rattle.fields.specs.Files.{room}
+use Rattle.fields.specs.Refusals.{number_in}
 use Rattle.rows.specs.Rows.{Rowed, rowed}
 use Rattle.rows.proofs.Several.{rows_of, holding, held_back}
 use Rattle.meta.specs.Page.{format_no}
@@ -22,8 +23,7 @@ use Rattle.scan.proofs.Surveys.{clog-fits}
 use Rattle.survey.specs.declared.Found.{Found}
 use Rattle.survey.specs.Survey.{Survey, survey_of, found, surveyed}
 use Rattle.survey.proofs.Logged.{logged-fits, logged-full}
-use Rattle.keyon.specs.declared.Tested.{Tested}
-use Rattle.keyon.specs.Inside.{room_by, joined, Tests}
+use Rattle.keyon.specs.Inside.{Tested, room_by, joined, Tests}
 use Rattle.keyon.proofs.Tables.{joined-fits, joined-full, joined-none}
 
 or-first : (n m : ℕ) → (n ≡ 0 → ⊥) → or_else n m ≡ n
@@ -81,7 +81,7 @@ module _ (P : ℕ) (f : Files) (frames : List ℕ) where
         unfolding found
         held-is h = ap (λ (x : Survey). x.held) is_found ∙ logged-fits P f.log old h
 
-        held-full : 256 < length (log_table P f.log) → s.held.number ≡ 7
+        held-full : 256 < length (log_table P f.log) → number_in s.held.set ≡ 7
         unfolding found
         held-full h = ap (λ (x : Survey). x.held.number) is_found ∙ logged-full P f.log old h
 
@@ -111,14 +111,14 @@ module _ (P : ℕ) (f : Files) (frames : List ℕ) where
               go (most p) = p
               go (less p) = absurd (omega (arith, seven p, n))
 
-          no-is : open_no P f frames ≡ s.ending
+          no-is : open_no P f frames ≡ number_in s.ending
           unfolding open_no found
           no-is = rw (b, z, room-is, y, le-ltb 256 (length (full_table P f)) few) (sym (ap (λ (x : Survey). x.ending) is_found))
 
-          pub test-ending : (r : Tested) (rows full : List (List ℕ)) → r ≡ record { number = s.ending; logged = 0; full = 0 } → (s.ending ≡ 0 → ⊥) → Tests P f frames r rows full
-          test-ending r rows full q h = stop r s.ending rows full q h no-is
+          pub test-ending : (r : Tested) (rows full : List (List ℕ)) → r ≡ record { number = number_in s.ending; logged = 0; full = 0 } → (number_in s.ending ≡ 0 → ⊥) → Tests P f frames r rows full
+          test-ending r rows full q h = stop r (number_in s.ending) rows full q h no-is
 
-          pub test-passed : s.ending ≡ 0 → Tests P f frames (record { number = 0; logged = s.held.count; full = t.count }) logged t.rows
+          pub test-passed : number_in s.ending ≡ 0 → Tests P f frames (record { number = 0; logged = s.held.count; full = t.count }) logged t.rows
           test-passed h =
               let k = held-is (omega (arith, few, log-within P f)) in
               let c : s.held.count ≡ length (log_table P f.log) = ap (λ (x : Rowed). x.count) k in

@@ -1,11 +1,9 @@
 -- Laws for the ways out of `open`, over the page size P: refused with nothing changed, stopped at a bad record with the images laid, and accepted. The premises are
 -- what the functions that it calls promise. Assumes nothing.
-use Prim.Native.Nat.{ℕ, zero, suc}
+use Prim.Native.Nat.{ℕ, zero, suc, ◌<◌}
 use native.Mathlib.Omega.{arith}
 use mathlib.Core.Path.{◌≡◌, refl, ap, ◌∙◌}
 use mathlib.Core.List.{List, [], ◌∷◌, map}
-use mathlib.Core.Bool.{false, ◌||◌}
-use lib.Dec.{eqb}
 use lib.ListN.{length, take}
 use Rattle.fields.specs.Files.{File, file_of, header}
 use Rattle.sorted.specs.Sorted.{laid_on}
@@ -14,38 +12,43 @@ use Rattle.table.specs.declared.Entry.{Entry}
 use Rattle.table.specs.Entries.{empty_table, list_of}
 use Rattle.table.proofs.Facts.{list-laid}
 use Rattle.rows.specs.Rows.{row_of}
-use Rattle.meta.specs.declared.Stored.{Stored}
-use Rattle.meta.specs.declared.Stored.TheVariants.{Meta, Nothing, Outside}
+use Rattle.std.specs.Prelude.{Option, Some, None, Result, Ok, Err}
+use Rattle.std.specs.Result.{result_unwrap_or}
+use Rattle.fields.specs.declared.refusal.Refusal.{Refusal}
+use Rattle.fields.specs.Refusals.{number_of}
+use Rattle.fields.proofs.AnswerLaws.{number-positive}
+use Rattle.opening.specs.declared.Unopened.{Unopened}
+use Rattle.opening.specs.declared.Unopened.TheVariants.{Refused, Torn, Unknown}
+use Rattle.meta.specs.declared.Counters.{Counters}
 use Rattle.meta.specs.Page.{stored_told, meta_in}
 use Rattle.frames.specs.Pages.{empty_frames, empty_touched}
 use Rattle.world.specs.declared.Lens.{Lens}
 use Rattle.world.specs.World.{files_of}
-use Rattle.form.specs.Store.{Given}
+use Rattle.form.specs.Store.{Given, given, no_store}
 use Rattle.lent.specs.declared.Head.{Head}
 use Rattle.lent.specs.Lent.{Lent, lent, head_of, laid_lent, leaving, left_of}
-use Rattle.opening.specs.Opening.{open_no, log_table, full_table, has_laid, opened}
+use Rattle.opening.specs.Opening.{open_no, log_table, full_table, opened_in, opened_as, opened}
 use Rattle.replay.specs.Replay.{laid_from}
 use Rattle.opens.specs.Inside.{Loadable, clog_by, store_at_rest, store_by}
-use Rattle.opens.proofs.Ways.{out-refused, out-torn, out-unknown, ready, out-accepted}
-use Rattle.keyon.specs.Keyon.{Wake, opened_lent}
+use Rattle.opens.specs.Stops.{stopped_by}
+use Rattle.opens.proofs.Ways.{out-stopped, ready, out-accepted}
+use Rattle.keyon.specs.Keyon.{Wake, waking_of, wakes, opened_lent}
 use Rattle.keyon.specs.Inside.{entries_of, tabled, Holds, head_at, head_by, rows_by}
 use Rattle.keyon.proofs.Tables.{entries-back}
 
 -- ---- head and rows are those of the store after an accepted opening
 
-head-is : (P : ℕ) (lens : Lens) (st : Stored) (a b : List Entry) → head_by P lens st a (length a) b (length b) ≡ head_of (store_by P lens st (tabled a) (tabled b))
+head-is : (P : ℕ) (lens : Lens) (st : Option Counters) (a b : List Entry) → head_by P lens st a (length a) b (length b) ≡ head_of (store_by P lens st (tabled a) (tabled b))
 unfolding head_at store_at_rest empty_frames empty_touched
-head-is P lens (Meta m) a b = refl
-head-is P lens Nothing a b = refl
-head-is P lens Outside a b = refl
+head-is P lens (Some m) a b = refl
+head-is P lens None a b = refl
 
-laid-is : (P : ℕ) (lens : Lens) (st : Stored) (a b : List Entry) (s : Lent) →
+laid-is : (P : ℕ) (lens : Lens) (st : Option Counters) (a b : List Entry) (s : Lent) →
     lent (head_of (store_by P lens st (tabled a) (tabled b))) (laid_on s.rows (rows_by st (map row_of a) (map row_of b))) s.resident s.touched
     ≡ laid_lent s (store_by P lens st (tabled a) (tabled b))
 unfolding laid_lent store_at_rest empty_frames empty_touched
-laid-is P lens (Meta m) a b s = rw (list-laid (empty_table 256) b)
-laid-is P lens Nothing a b s = rw (list-laid (empty_table 256) a)
-laid-is P lens Outside a b s = rw (list-laid (empty_table 256) a)
+laid-is P lens (Some m) a b s = rw (list-laid (empty_table 256) b)
+laid-is P lens None a b s = rw (list-laid (empty_table 256) a)
 
 -- what is held, read
 held-read : (n : ℕ) (rows : List (List ℕ)) (l : List Entry) → Holds n rows l → entries_of n rows ≡ l
@@ -62,22 +65,26 @@ module _ (P : ℕ) (lens : Lens) (s : Lent) (log db clog frames : List ℕ) wher
   unfolding opened_lent
   by-opened w g e h = e ∙ ap on_lent h
 
-  pub wake-refused : (n : ℕ) → n ≡ open_no P (files_of lens log db clog) frames → (eqb n 0 || has_laid n) ≡ false →
-      ◌≡◌ {A = Wake} (record { value = []; left = leaving n s log db clog frames }) (opened_lent P lens s log db clog frames)
+  -- refused, or stopped at a bad record
+  pub wake-stopped : (r : Refusal) → number_of r ≡ open_no P (files_of lens log db clog) frames →
+      (let t = stopped_by P r (file_of log lens.log) (file_of db lens.db) in
+      wakes (waking_of s.head (Err t.why)) s.rows s.resident s.touched log t.db clog frames)
+      ≡ opened_lent P lens s log db clog frames
   unfolding left_of
-  wake-refused zero e h = let z : ◌≡◌ {A = ℕ} 0 1 = cc in absurd (omega arith)
-  wake-refused (suc n) e h = by-opened _ _ refl (out-refused P lens log db clog frames (suc n) e h)
+  wake-stopped r e =
+      let t = stopped_by P r (file_of log lens.log) (file_of db lens.db) in
+      by-opened _ (opened_as (opened_in (Err t.why)) log t.db clog frames) (left-same t.why log t.db) (out-stopped P lens log db clog frames r e)
+    where
+      left-refused : (n : ℕ) → 0 < n → (log db : List ℕ) →
+          ◌≡◌ {A = Wake} (record { value = []; left = leaving n s log db clog frames }) (on_lent (given [] (record { number = n; store = no_store }) log db clog frames))
+      left-refused zero h log db = absurd (omega arith)
+      left-refused (suc n) h log db = refl
 
-  module _ (d : File) (e : d ≡ laid_from P (file_of log lens.log) (file_of db lens.db)) where
-    pub wake-torn : open_no P (files_of lens log db clog) frames ≡ 2 →
-        ◌≡◌ {A = Wake} (record { value = d.len ∷ []; left = leaving 2 s log d.bytes clog frames }) (opened_lent P lens s log db clog frames)
-    unfolding left_of
-    wake-torn ok = by-opened _ _ refl (out-torn P lens log db clog frames d e ok)
-
-    pub wake-unknown : open_no P (files_of lens log db clog) frames ≡ 3 →
-        ◌≡◌ {A = Wake} (record { value = d.len ∷ []; left = leaving 3 s log d.bytes clog frames }) (opened_lent P lens s log db clog frames)
-    unfolding left_of
-    wake-unknown ok = by-opened _ _ refl (out-unknown P lens log db clog frames d e ok)
+      left-same : (u : Unopened) (log db : List ℕ) →
+          wakes (waking_of s.head (Err u)) s.rows s.resident s.touched log db clog frames ≡ on_lent (opened_as (opened_in (Err u)) log db clog frames)
+      left-same (Refused q) log db = left-refused (number_of q) (number-positive q) log db
+      left-same (Torn n) log db = refl
+      left-same (Unknown n) log db = refl
 
   module _ (ok : open_no P (files_of lens log db clog) frames ≡ 0) (n k : ℕ) (logged full : List (List ℕ)) (hl : Holds n logged (log_table P (file_of log lens.log)))
       (hf : Holds k full (full_table P (files_of lens log db clog))) where
@@ -88,14 +95,13 @@ module _ (P : ℕ) (lens : Lens) (s : Lent) (log db clog frames : List ℕ) wher
         let r = ready P lens log db clog frames ok (tabled l) refl in
         rw (held-read n logged l hl) (rw (list-laid (empty_table 256) l) at r)
 
-    pub wake-accepted : (d : File) → d ≡ laid_from P (file_of log lens.log) (file_of db lens.db) → (st : Stored) → stored_told st ≡ meta_in P d → (c l : File) →
+    pub wake-accepted : (d : File) → d ≡ laid_from P (file_of log lens.log) (file_of db lens.db) → (r : Result (Option Counters) Refusal) → stored_told r ≡ meta_in P d → (st : Option Counters) → st ≡ result_unwrap_or r None → (c l : File) →
         c ≡ clog_by st (entries_of n logged) (file_of clog lens.clog) → l ≡ header log_magic (file_of log lens.log) →
         (rows : List (List ℕ)) → rows ≡ laid_on s.rows (rows_by st (take n logged) (take k full)) →
         (h : Head) → h ≡ head_by P (record { log = l.len; db = d.len; clog = c.len }) st (entries_of n logged) n (entries_of k full) k →
-        ◌≡◌ {A = Wake} (record { value = d.len ∷ []; left = leaving 0 (lent h rows s.resident s.touched) l.bytes d.bytes c.bytes frames })
-        (opened_lent P lens s log db clog frames)
-    unfolding left_of
-    wake-accepted d e st es c l ec et rows er h eh =
+        wakes (waking_of s.head (Ok h)) rows s.resident s.touched l.bytes d.bytes c.bytes frames ≡ opened_lent P lens s log db clog frames
+    unfolding left_of laid_lent
+    wake-accepted d e r es st is c l ec et rows er h eh =
         let a = log_table P (file_of log lens.log) in
         let b = full_table P (files_of lens log db clog) in
         let left : Lens = record { log = l.len; db = d.len; clog = c.len } in
@@ -106,5 +112,5 @@ module _ (P : ℕ) (lens : Lens) (s : Lent) (log db clog frames : List ℕ) wher
         let fr : rows ≡ laid_on s.rows (rows_by st (map row_of a) (map row_of b)) = rw (hl.1, hf.1) at er in
         let fh : h ≡ head_of u = rw (x, y, hl.0, hf.0) at eh ∙ head-is P left st a b in
         let g : lent h rows s.resident s.touched ≡ laid_lent s u = rw (fh, fr) (laid-is P left st a b s) in
-        by-opened _ _ (ap (λ (v : Lent). record { value = d.len ∷ []; left = leaving 0 v l.bytes d.bytes c.bytes frames }) g)
-        (out-accepted P lens log db clog frames ok d e st es (tabled a) (tabled b) refl refl c l fc et u refl)
+        by-opened _ _ (ap (λ (v : Lent). record { value = v.head.lens.db ∷ []; left = leaving 0 v l.bytes d.bytes c.bytes frames }) g)
+        (out-accepted P lens log db clog frames ok d e r es st is (tabled a) (tabled b) refl refl c l fc et u refl)

@@ -21,18 +21,17 @@ use Rattle.world.specs.declared.Slot.{Slot}
 use Rattle.world.specs.declared.Slot.TheVariants.{Installed, Empty}
 use Rattle.world.specs.World.{World, files_of}
 use Rattle.form.specs.declared.Store.{Store}
-use Rattle.form.specs.Store.{no_store, laid_store, Given, given}
+use Rattle.form.specs.Store.{no_store, laid_store}
 use Rattle.lent.specs.declared.Head.{Head}
 use Rattle.lent.specs.Lent.{Lent, odd, odd_head, head_of, laid_lent, left_of}
 use Rattle.lent.proofs.Worlds.{world_left, world-lent}
-use Rattle.opening.specs.declared.Verdict.{Verdict}
-use Rattle.opening.specs.declared.Opened.{Opened}
+use Rattle.std.specs.Prelude.{Result, Ok, Err}
+use Rattle.opening.specs.declared.Unopened.{Unopened}
 use Rattle.opening.specs.Opening.{records, replayed, open_no, with_meta, without_meta, opened_world, opening, opened}
-use Rattle.opening.proofs.Laws.{accepted, opened-same}
+use Rattle.opening.proofs.Laws.{accepted, verdict-same}
 use Rattle.opening.proofs.Formed.{no-means}
 use Rattle.opening.proofs.Replays.{replay-fits}
-use Rattle.keyon.specs.declared.Waking.{Waking}
-use Rattle.keyon.specs.Keyon.{Wake, wakes, opened_lent}
+use Rattle.keyon.specs.Keyon.{Wake, waking_of, wakes, opened_lent}
 
 -- ---- rows of entries are not odd
 
@@ -98,23 +97,24 @@ module _ (lens : Lens) (s : Lent) (log db clog frames : List ℕ) (ok : open_no 
 
 -- ---- what is told of an answer, the arrays and the buffers says what they are
 
-pub wakes-same : (r s : Waking) (rows rows' : List (List ℕ)) (resident resident' touched touched' log log' db db' clog clog' frames frames' : List ℕ) (o : Wake) →
-    wakes r rows resident touched log db clog frames ≡ o → wakes s rows' resident' touched' log' db' clog' frames' ≡ o →
+result-same : (k : Head) (r s : Result Head Unopened) → (waking_of k r).verdict ≡ (waking_of k s).verdict → (waking_of k r).head ≡ (waking_of k s).head → r ≡ s
+result-same k (Ok g) (Ok h) v d = ap (λ x. Ok x) d
+result-same k (Ok g) (Err u) v d = cc
+result-same k (Err u) (Ok h) v d = cc
+result-same k (Err u) (Err w) v d = let e : u ≡ w = cc in ap (λ x. Err x) e
+
+pub wakes-same : (k : Head) (r s : Result Head Unopened) (rows rows' : List (List ℕ)) (resident resident' touched touched' log log' db db' clog clog' frames frames' : List ℕ) (o : Wake) →
+    wakes (waking_of k r) rows resident touched log db clog frames ≡ o → wakes (waking_of k s) rows' resident' touched' log' db' clog' frames' ≡ o →
     (r ≡ s) × (rows ≡ rows') × (resident ≡ resident') × (touched ≡ touched') × (log ≡ log') × (db ≡ db') × (clog ≡ clog') × (frames ≡ frames')
-wakes-same r s rows rows' resident resident' touched touched' log log' db db' clog clog' frames frames' o e h =
-    let f : Wake → Given (List ℕ) = λ (w : Wake). given w.value (record { number = w.left.number; store = no_store }) w.left.log w.left.db w.left.clog w.left.frames in
+wakes-same k r s rows rows' resident resident' touched touched' log log' db db' clog clog' frames frames' o e h =
     let g = e ∙ sym h in
-    let x = opened-same (record { verdict = r.verdict; store = no_store }) (record { verdict = s.verdict; store = no_store }) log log' db db' clog clog' frames frames' (f o) (ap f e) (ap f h) in
-    let v : r.verdict ≡ s.verdict = ap (λ (y : Opened). y.verdict) x.0 in
-    let d : r.head ≡ s.head = ap (λ (w : Wake). w.left.store.head) g in
-    let m : r ≡ record { verdict = s.verdict; head = r.head } = ap (λ (y : Verdict). record { verdict = y; head = r.head }) v in
-    let n : record { verdict = s.verdict; head = r.head } ≡ s = ap (λ (y : Head). record { verdict = s.verdict; head = y }) d in (
-      m ∙ n,
+    let v = verdict-same (waking_of k r).verdict (waking_of k s).verdict (ap (λ (w : Wake). w.left.number) g) (ap (λ (w : Wake). w.value) g) in (
+      result-same k r s v (ap (λ (w : Wake). w.left.store.head) g),
       ap (λ (w : Wake). w.left.store.rows) g,
       ap (λ (w : Wake). w.left.store.resident) g,
       ap (λ (w : Wake). w.left.store.touched) g,
-      x.1,
-      x.2,
-      x.3,
-      x.4,
+      ap (λ (w : Wake). w.left.log) g,
+      ap (λ (w : Wake). w.left.db) g,
+      ap (λ (w : Wake). w.left.clog) g,
+      ap (λ (w : Wake). w.left.frames) g,
     )

@@ -10,7 +10,7 @@ use Rattle.fields.specs.Files.{File, content, room}
 use Rattle.wal.specs.Records.{Record, checkpoint}
 use Rattle.table.specs.declared.Status.{Status}
 use Rattle.table.specs.declared.Entry.{Entry}
-use Rattle.table.specs.declared.Known.TheVariants.{Is, Absent}
+use Rattle.std.specs.Prelude.{Some, None}
 use Rattle.table.specs.Entries.{id_of, status_of}
 use Rattle.table.proofs.Facts.{settled_known, no-status, own-status}
 use Rattle.clog.specs.Slots.{code_of, set_slot}
@@ -44,7 +44,7 @@ use Rattle.keyturn.proofs.Build.{Before, Come, as_before, as-image, Half, Full, 
 pub record Adds (P : ℕ) (own : Slot) (db clog : ℕ) (zs : List Record) : Type 0 where
   pub rest : AllRest P db zs
   pub ids : any_of (map (past_clog clog) (statuses zs)) ≡ false
-  pub quiet : (t : ℕ) → NotOwn own t → last_word t zs ≡ Absent
+  pub quiet : (t : ℕ) → NotOwn own t → last_word t zs ≡ None
 
 module _ (P : ℕ) (own : Slot) (db clog : ℕ) where
   pub adds_none : Adds P own db clog []
@@ -84,7 +84,7 @@ module _ (P : ℕ) (own : Slot) (db clog : ℕ) where
   }
 
 -- what it says
-pub word-said : (r : Record) (e : Entry) → noted r ≡ e ∷ [] → last_word (id_of e) (r ∷ []) ≡ Is e.status
+pub word-said : (r : Record) (e : Entry) → noted r ≡ e ∷ [] → last_word (id_of e) (r ∷ []) ≡ Some e.status
 unfolding last_word
 word-said r e h = rw h (own-status e [])
 
@@ -138,7 +138,7 @@ module _ (P : ℕ) (w : World) (v : Kept P w) where
       }
 
   pub set-loads : (g : Files) (id : TransactionId) (s : Status) → g.clog ≡ set_slot 8 id.0 (code_of s) w.files.clog → 8 + id.0 / 4 < room w.files.clog →
-      loads g.clog id.0 ≡ kept (Is s)
+      loads g.clog id.0 ≡ kept (Some s)
   set-loads g id s e l = ap (λ (f : File). loads f id.0) e ∙ (clog-sets id.0 s w.files.clog v.clog-len l).0
 
   -- ---- the files in the middle: the log with something added, or cut back
@@ -182,7 +182,7 @@ module _ (P : ℕ) (w : World) (v : Kept P w) where
 
   -- ---- what is found of the call's own id
 
-  pub found_word : (zs : List Record) (clog : File) (t : ℕ) (s : Status) → last_word t zs ≡ Is s → found (old ++ zs) clog t ≡ settled_known (Is s)
+  pub found_word : (zs : List Record) (clog : File) (t : ℕ) (s : Status) → last_word t zs ≡ Some s → found (old ++ zs) clog t ≡ settled_known (Some s)
   found_word zs clog t s h = rw (word-append t old zs, h)
 
   pub found-slot : (clog : File) (t : ℕ) → found [] clog t ≡ loads clog t

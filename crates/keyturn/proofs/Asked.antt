@@ -12,7 +12,7 @@ use Rattle.fields.specs.declared.TransactionId.{TransactionId}
 use Rattle.fields.proofs.Tests.{Order, less, most, order, or-false}
 use Rattle.wal.specs.Records.{image}
 use Rattle.table.specs.declared.Status.TheVariants.{Active}
-use Rattle.table.specs.declared.Known.TheVariants.{Is}
+use Rattle.std.specs.Prelude.{Some}
 use Rattle.table.specs.Entries.{status_of}
 use Rattle.frames.specs.Pages.{is_in}
 use Rattle.frames.proofs.Lists.{in-join}
@@ -35,7 +35,7 @@ pub record Asked (P : ℕ) (c : Call) (w : World) : Type 0 where
   pub quiet : ZeroFlush P c w → ⊥
   pub zero : (id : TransactionId) → w.mem.slot ≡ Installed id → is_in 0 w.mem.touched ≡ false
   pub above : (id : TransactionId) → own_id c w ≡ Installed id → w.mem.mark.0 ≤ id.0
-  pub active : (id : TransactionId) → c ≡ Commit → w.mem.slot ≡ Installed id → status_of id.0 w.mem.table ≡ Is Active
+  pub active : (id : TransactionId) → c ≡ Commit → w.mem.slot ≡ Installed id → status_of id.0 w.mem.table ≡ Some Active
 
 -- ---- its pages, but for page 0's counters
 

@@ -12,7 +12,7 @@ use Rattle.fields.proofs.Tests.{Order, less, most, order}
 use Rattle.fields.proofs.FileLaws.{lay-room, lay-len}
 use Rattle.wal.specs.Records.{Record, abort, checkpoint, encode}
 use Rattle.table.specs.declared.Status.TheVariants.{Aborted}
-use Rattle.table.specs.declared.Known.TheVariants.{Is}
+use Rattle.std.specs.Prelude.{Some}
 use Rattle.table.specs.Entries.{insert_entry, status_of}
 use Rattle.table.proofs.Facts.{or_known}
 use Rattle.clog.specs.Slots.{code_of, set_slot}
@@ -110,7 +110,7 @@ module _ (P : ℕ) (big : 36 ≤ P) (w : World) (v : Kept P w) (form : InForm P 
   record-room : w.files.log.len + length (encode r) ≤ room w.files.log
   record-room = omega (arith, log-room, record-size)
 
-  said : (Is Aborted ≡ kept (status_of id.0 w.mem.table)) ⊎ (Is Aborted ≡ Is Aborted)
+  said : (Some Aborted ≡ kept (status_of id.0 w.mem.table)) ⊎ (Some Aborted ≡ Some Aborted)
   said = inr refl
 
   record-plain : (i b : ℕ) → imaged_all P (r ∷ []) i b ≡ b
@@ -124,11 +124,11 @@ module _ (P : ℕ) (big : 36 ≤ P) (w : World) (v : Kept P w) (form : InForm P 
   adds-record : Adds P (Installed id) (room w.files.db) (room w.files.clog) (r ∷ [])
   adds-record = adds-word P (Installed id) _ _ r (entry id.0 Aborted) refl tt fit (own-id id)
 
-  record-word : last_word id.0 (r ∷ []) ≡ Is Aborted
+  record-word : last_word id.0 (r ∷ []) ≡ Some Aborted
   record-word = word-said r (entry id.0 Aborted) refl
 
   -- nothing behind it says more
-  end-word : or_known (last_word id.0 []) (last_word id.0 (r ∷ [])) ≡ Is Aborted
+  end-word : or_known (last_word id.0 []) (last_word id.0 (r ∷ [])) ≡ Some Aborted
   end-word = word-none' ∙ record-word
     where
       word-none' : or_known (last_word id.0 []) (last_word id.0 (r ∷ [])) ≡ last_word id.0 (r ∷ [])

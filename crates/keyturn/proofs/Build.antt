@@ -14,8 +14,7 @@ use Rattle.wal.specs.Records.{Record}
 use Rattle.table.specs.declared.Status.{Status}
 use Rattle.table.specs.declared.Status.TheVariants.{Committed, Aborted}
 use Rattle.table.specs.declared.Entry.{Entry}
-use Rattle.table.specs.declared.Known.{Known}
-use Rattle.table.specs.declared.Known.TheVariants.{Is, Absent}
+use Rattle.std.specs.Prelude.{Option, Some, None}
 use Rattle.table.specs.Entries.{insert_entry, status_of}
 use Rattle.table.proofs.Facts.{set-ascending, status-set, status-kept, absent-not}
 use Rattle.frames.specs.Pages.{is_in}
@@ -71,18 +70,18 @@ left P rs g i = imaged_all P rs i (byte_of g.db i)
 -- ---- what is found of one opening
 
 -- the status of the call's own id, before and after; counts says whether its commit counts
-abbrev pub OwnStatus : Bool → Call → Known → Known → Type 0
+abbrev pub OwnStatus : Bool → Call → Option Status → Option Status → Type 0
 OwnStatus counts (Install id ps) old new = Unit {0}
 OwnStatus counts Uninstall old new = Unit {0}
 OwnStatus counts AllocId old new = Unit {0}
 OwnStatus counts AllocPage old new = Unit {0}
-OwnStatus counts (Begin id) old new = (new ≡ kept old) ⊎ (new ≡ Is Aborted)
+OwnStatus counts (Begin id) old new = (new ≡ kept old) ⊎ (new ≡ Some Aborted)
 OwnStatus counts (Read p) old new = Unit {0}
 OwnStatus counts (Write p bytes) old new = Unit {0}
 OwnStatus counts (Flush p) old new = Unit {0}
-OwnStatus true Commit old new = (t : CommitTime) × (new ≡ Is (Committed t))
-OwnStatus false Commit old new = new ≡ Is Aborted
-OwnStatus counts (Rollback list) old new = (new ≡ kept old) ⊎ (new ≡ Is Aborted)
+OwnStatus true Commit old new = (t : CommitTime) × (new ≡ Some (Committed t))
+OwnStatus false Commit old new = new ≡ Some Aborted
+OwnStatus counts (Rollback list) old new = (new ≡ kept old) ⊎ (new ≡ Some Aborted)
 OwnStatus counts (Advance v) old new = Unit {0}
 
 pub record Found (P : ℕ) (counts : Bool) (c : Call) (w : World) (new : Opening) : Type 0 where
@@ -131,7 +130,7 @@ module _ (P : ℕ) (big : 36 ≤ P) (w : World) (v : Kept P w) (c : Call) (count
       PagesBy counts P w (written c w) (left P rs g) → Found P counts c w (opening_torn P g w.frames)
   said o p = record {
     accepted = mid.accepted P big w v own (mark_of c w) higher rs g m table bound;
-    own = λ id e. subst (λ (k : Known). OwnStatus counts c (status_of id.0 w.mem.table) k) (sym (status-is id.0)) (o id e);
+    own = λ id e. subst (λ (k : Option Status). OwnStatus counts c (status_of id.0 w.mem.table) k) (sym (status-is id.0)) (o id e);
     others = λ t h n. status-is t ∙ mid.others P big w v own (mark_of c w) higher rs g m table bound t (fewer t n) h;
     pages = by-same counts P w (written c w) (left P rs g) (byte_of new.world.files.db) byte-is p;
   }
@@ -171,10 +170,10 @@ bound-set P w id s v few = record {
     unslot (Installed i) = i.0
     unslot Empty = 0
 
-    go : (t : ℕ) → Equal id.0 t → status_of t (insert_entry (record { id = id; status = s }) w.mem.table) ≡ Absent →
-        NotOwn (Installed id) t × (status_of t w.mem.table ≡ Absent)
+    go : (t : ℕ) → Equal id.0 t → status_of t (insert_entry (record { id = id; status = s }) w.mem.table) ≡ None →
+        NotOwn (Installed id) t × (status_of t w.mem.table ≡ None)
     go t (equal p) h =
-        let q : status_of id.0 (insert_entry (record { id = id; status = s }) w.mem.table) ≡ Absent =
-        subst (λ (j : ℕ). status_of j (insert_entry (record { id = id; status = s }) w.mem.table) ≡ Absent) (sym p) h in
+        let q : status_of id.0 (insert_entry (record { id = id; status = s }) w.mem.table) ≡ None =
+        subst (λ (j : ℕ). status_of j (insert_entry (record { id = id; status = s }) w.mem.table) ≡ None) (sym p) h in
         absurd (absent-not _ s q (status-set (record { id = id; status = s }) w.mem.table))
     go t (other n) h = ((λ q. n (ap unslot q)), sym (status-kept (record { id = id; status = s }) w.mem.table t n) ∙ h)

@@ -6,8 +6,7 @@ use Prim.Native.Nat.{ℕ, suc, ◌+◌, ◌-◌, ◌/◌, ◌≤◌, ◌<◌}
 use native.Mathlib.Omega.{arith}
 use Rattle.fields.specs.Files.{File, content, room}
 use Rattle.table.specs.declared.Status.{Status}
-use Rattle.table.specs.declared.Known.{Known}
-use Rattle.table.specs.declared.Known.TheVariants.{Absent}
+use Rattle.std.specs.Prelude.{Option, None}
 use Rattle.clog.specs.Slots.{slot_of, valid_clog, span_below}
 use Rattle.clog.proofs.TableLaws.{known_as, valid-long, valid_same}
 use Rattle.world.specs.World.{Files}
@@ -23,13 +22,13 @@ pub record ClogIs (clog : File) : Type 0 where
   pub valid : valid_clog clog ≡ true
 
 -- what the slot of an id loads as
-abbrev pub loads : File → ℕ → Known
+abbrev pub loads : File → ℕ → Option Status
 loads clog t = known_as (slot_of 8 (content clog) t)
 
 -- a word that is the old one, or gone
-pub data Quiet (old new : Known) : Type 0 where
+pub data Quiet (old new : Option Status) : Type 0 where
   same : new ≡ old → Quiet old new
-  gone : new ≡ Absent → Quiet old new
+  gone : new ≡ None → Quiet old new
 
 -- ---- a slot's store to a position: either no slot has changed, or it is whole
 

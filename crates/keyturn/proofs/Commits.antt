@@ -15,7 +15,7 @@ use Rattle.wal.specs.Records.{Record, commit, checkpoint, encode}
 use Rattle.wal.proofs.WriteLaws.{commit-size}
 use Rattle.table.specs.declared.Status.{Status}
 use Rattle.table.specs.declared.Status.TheVariants.{Committed}
-use Rattle.table.specs.declared.Known.TheVariants.{Is}
+use Rattle.std.specs.Prelude.{Some}
 use Rattle.table.specs.Entries.{insert_entry}
 use Rattle.table.proofs.Facts.{or_known, settled_known}
 use Rattle.clog.specs.Slots.{code_of, set_slot}
@@ -181,10 +181,10 @@ module _ (P : ℕ) (big : 36 ≤ P) (w : World) (v : Kept P w) (form : InForm P 
   unfolding apply
   clog2 = clog1
 
-  said : (t : CommitTime) × (settled_known (Is s) ≡ Is (Committed t))
+  said : (t : CommitTime) × (settled_known (Some s) ≡ Some (Committed t))
   said = (w.mem.time, refl)
 
-  slotted : (t : CommitTime) × (kept (Is s) ≡ Is (Committed t))
+  slotted : (t : CommitTime) × (kept (Some s) ≡ Some (Committed t))
   slotted = (record { 0 = 0 }, refl)
 
   none-plain : (i b : ℕ) → imaged_all P [] i b ≡ b
@@ -195,7 +195,7 @@ module _ (P : ℕ) (big : 36 ≤ P) (w : World) (v : Kept P w) (form : InForm P 
   unfolding imaged_all
   record-plain i b = refl
 
-  word : or_known (last_word id.0 (r ∷ [])) (last_word id.0 []) ≡ Is s
+  word : or_known (last_word id.0 (r ∷ [])) (last_word id.0 []) ≡ Some s
   word = rw (word-said r (entry id.0 s) refl)
 
   adds-record : Adds P (Installed id) (room w.files.db) (room w.files.clog) (r ∷ [])

@@ -11,8 +11,7 @@ use Rattle.fields.specs.Files.{File, room}
 use Rattle.fields.proofs.Tests.{Order, less, most, order, neither}
 use Rattle.wal.specs.Records.{Record, checkpoint, encode}
 use Rattle.table.specs.declared.Status.{Status}
-use Rattle.table.specs.declared.Known.{Known}
-use Rattle.table.specs.declared.Known.TheVariants.{Is, Absent}
+use Rattle.std.specs.Prelude.{Option, Some, None}
 use Rattle.table.specs.Entries.{insert_entry, status_of}
 use Rattle.table.proofs.Facts.{or_known, settled_known, no-status}
 use Rattle.clog.specs.Slots.{code_of, set_slot}
@@ -66,8 +65,8 @@ module _ (P : ℕ) (big : 36 ≤ P) (w : World) (v : Kept P w) where
 
   module _ (c : Call) (counts : Bool) (id : TransactionId) (s : Status) (own : own_id c w ≡ Installed id) (fit : 8 + id.0 / 4 < room w.files.clog)
       (few : length (insert_entry (record { id = id; status = s }) w.mem.table) ≤ 256)
-      (said : OwnStatus counts c (status_of id.0 w.mem.table) (settled_known (Is s)))
-      (slotted : OwnStatus counts c (status_of id.0 w.mem.table) (kept (Is s)))
+      (said : OwnStatus counts c (status_of id.0 w.mem.table) (settled_known (Some s)))
+      (slotted : OwnStatus counts c (status_of id.0 w.mem.table) (kept (Some s)))
       (fine : AllFine P (room w.files.db) (written c w)) (next time : ℕ)
       (xs ys : List Record) (px : (i b : ℕ) → imaged_all P xs i b ≡ b) (py : (i b : ℕ) → imaged_all P ys i b ≡ b)
       (ax : Adds P (Installed id) (room w.files.db) (room w.files.clog) xs) (ay : Adds P (Installed id) (room w.files.db) (room w.files.clog) ys) where
@@ -93,11 +92,11 @@ module _ (P : ℕ) (big : 36 ≤ P) (w : World) (v : Kept P w) where
     all-word : (y : List Record) → last_word id.0 (all y) ≡ or_known (last_word id.0 y) (last_word id.0 xs)
     all-word y = word-append id.0 xs (pages ++ y) ∙ rw (word-append id.0 pages y, images-words P w id.0 (written c w)) (gone (last_word id.0 y))
       where
-        gone : (k : Known) → or_known (or_known k Absent) (last_word id.0 xs) ≡ or_known k (last_word id.0 xs)
-        gone (Is u) = refl
-        gone Absent = refl
+        gone : (k : Option Status) → or_known (or_known k None) (last_word id.0 xs) ≡ or_known k (last_word id.0 xs)
+        gone (Some u) = refl
+        gone None = refl
 
-    module _ (word : or_known (last_word id.0 ys) (last_word id.0 xs) ≡ Is s) where
+    module _ (word : or_known (last_word id.0 ys) (last_word id.0 xs) ≡ Some s) where
       -- all images in the log, and the pages written or not
       pub logged-state : (g : Files) → LogIs P g.log (old ++ all ys) → DbKept P w (mark_of c w) g → ClogKept w (Installed id) (mark_of c w) g →
           ((p i : ℕ) → 0 < p → is_in p (written c w) ≡ false → i < P → byte_of g.db (p * P + i) ≡ byte_of w.files.db (p * P + i)) → Goal g
@@ -112,7 +111,7 @@ module _ (P : ℕ) (big : 36 ≤ P) (w : World) (v : Kept P w) where
       unfolding more
       more-plain i b = imaged-append P ys (checkpoint ∷ []) i b ∙ (unfold imaged_all in py i b)
 
-      more-word : last_word id.0 (all more) ≡ Is s
+      more-word : last_word id.0 (all more) ≡ Some s
       unfolding more
       more-word = all-word (ys ++ (checkpoint ∷ [])) ∙ rw (word-append id.0 ys (checkpoint ∷ [])) (silent ∙ word)
         where

@@ -10,8 +10,7 @@ use Rattle.fields.proofs.FileLaws.{fit-ok}
 use Rattle.wal.specs.Records.{Record}
 use Rattle.table.specs.declared.Status.{Status}
 use Rattle.table.specs.declared.Entry.{Entry}
-use Rattle.table.specs.declared.Known.{Known}
-use Rattle.table.specs.declared.Known.TheVariants.{Is, Absent}
+use Rattle.std.specs.Prelude.{Option, Some, None}
 use Rattle.table.specs.Entries.{ascending, status_of}
 use Rattle.table.proofs.Facts.{or_known, settled_known, within}
 use Rattle.clog.proofs.TableLaws.{valid-long}
@@ -65,27 +64,27 @@ pub record Mid (P : ℕ) (w : World) (own : Slot) (above : ℕ) (rs : List Recor
 pub record Bound (w : World) (own : Slot) (table : List Entry) : Type 0 where
   pub sorted : ascending table ≡ true
   pub few : length table ≤ 256
-  pub covers : (t : ℕ) → status_of t table ≡ Absent → NotOwn own t × (status_of t w.mem.table ≡ Absent)
+  pub covers : (t : ℕ) → status_of t table ≡ None → NotOwn own t × (status_of t w.mem.table ≡ None)
 
 -- what is found of an id: the log's word, else the slot's
-abbrev pub found : List Record → File → ℕ → Known
+abbrev pub found : List Record → File → ℕ → Option Status
 found rs clog t = or_known (settled_known (last_word t rs)) (loads clog t)
 
 -- ---- one id: the log's word, what the slot loads as, and the status held
 
-calm : (l0 l c0 c h : Known) → Quiet l0 l → Quiet c0 c → ((s : Status) → l0 ≡ Is s → h ≡ Absent → ⊥) → (h ≡ Absent → c0 ≡ Absent) → h ≡ Absent →
-    or_known (settled_known l) c ≡ Absent
+calm : (l0 l c0 c h : Option Status) → Quiet l0 l → Quiet c0 c → ((s : Status) → l0 ≡ Some s → h ≡ None → ⊥) → (h ≡ None → c0 ≡ None) → h ≡ None →
+    or_known (settled_known l) c ≡ None
 calm l0 l c0 c h lq cq a b e = rw (word lq, slot cq)
   where
-    old : (x : Known) → l0 ≡ x → x ≡ Absent
-    old (Is s) q = absurd (a s q e)
-    old Absent q = refl
+    old : (x : Option Status) → l0 ≡ x → x ≡ None
+    old (Some s) q = absurd (a s q e)
+    old None q = refl
 
-    word : Quiet l0 l → l ≡ Absent
+    word : Quiet l0 l → l ≡ None
     word (same q) = q ∙ old l0 refl
     word (gone q) = q
 
-    slot : Quiet c0 c → c ≡ Absent
+    slot : Quiet c0 c → c ≡ None
     slot (same q) = q ∙ b e
     slot (gone q) = q
 
@@ -106,7 +105,7 @@ module _ (P : ℕ) (big : 36 ≤ P) (w : World) (v : Kept P w) (own : Slot) (abo
       go (gone e) = rw (e, m.high t n h) (v.marks.slots t (omega arith))
 
   -- none appears
-  none_more : (t : ℕ) → status_of t table ≡ Absent → status_of t (full_table P g) ≡ Absent
+  none_more : (t : ℕ) → status_of t table ≡ None → status_of t (full_table P g) ≡ None
   none_more t h =
       let b = bound.covers t h in
       full-found t ∙ calm _ _ _ _ (status_of t w.mem.table) (m.words t b.0) (m.slots t b.0) (v.marks.logged t) (v.marks.slotted t) b.1

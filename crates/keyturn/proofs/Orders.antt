@@ -7,7 +7,7 @@ use lib.ListN.{replicate}
 use Rattle.fields.specs.Bytes.{bytes_of}
 use Rattle.wal.specs.Records.{log_magic, image, commit, checkpoint}
 use Rattle.table.specs.declared.Status.TheVariants.{Committed, Aborted}
-use Rattle.table.specs.declared.Known.TheVariants.{Is}
+use Rattle.std.specs.Prelude.{Some}
 use Rattle.clog.specs.Slots.{clog_magic}
 use Rattle.meta.specs.Page.{meta_magic, meta_page}
 use Rattle.world.specs.World.{Files, World}
@@ -53,12 +53,12 @@ unfolding cut_here cut_open ran images writes committed log_magic clog_magic met
 record-first = refl
 
 -- the truncation before the pages: the record was whole, yet the id is Aborted, and the page has not its image
-emptied-first : cut_here (logged ++ (signed ++ (emptied ++ (paged ++ (slotted ++ ended))))) 4 9 ≡ saying 0 (Is Aborted) 0 unmet
+emptied-first : cut_here (logged ++ (signed ++ (emptied ++ (paged ++ (slotted ++ ended))))) 4 9 ≡ saying 0 (Some Aborted) 0 unmet
 unfolding cut_here cut_open ran images writes committed log_magic clog_magic meta_magic meta_page bytes_of
 emptied-first = refl
 
 -- the clog after the truncation: the record was whole, yet the id is Aborted
-slot-last : cut_here (logged ++ (signed ++ (paged ++ (emptied ++ (slotted ++ ended))))) 5 9 ≡ saying 0 (Is Aborted) 7 unmet
+slot-last : cut_here (logged ++ (signed ++ (paged ++ (emptied ++ (slotted ++ ended))))) 5 9 ≡ saying 0 (Some Aborted) 7 unmet
 unfolding cut_here cut_open ran images writes committed log_magic clog_magic meta_magic meta_page bytes_of
 slot-last = refl
 
@@ -71,9 +71,9 @@ pages-first :
     ∷ cut_here (logged ++ (paged ++ (signed ++ (slotted ++ (emptied ++ ended))))) 3 17
     ∷ cut_here (logged ++ (paged ++ (signed ++ (slotted ++ (emptied ++ ended))))) 6 1
     ∷ []
-    ≡ saying 0 (Is Aborted) 7 unmet
-    ∷ saying 0 (Is Aborted) 7 unmet
-    ∷ saying 0 (Is Aborted) 7 (met 86 1)
+    ≡ saying 0 (Some Aborted) 7 unmet
+    ∷ saying 0 (Some Aborted) 7 unmet
+    ∷ saying 0 (Some Aborted) 7 (met 86 1)
     ∷ saying 0 (at 2) 7 unmet
     ∷ saying 0 (at 0) 7 unmet
     ∷ []

@@ -14,7 +14,7 @@ use Rattle.fields.proofs.Tests.{both}
 use Rattle.sorted.specs.Sorted.{insert_by, insert_all_by, look_by, ascending_by}
 use Rattle.wal.specs.Records.{log_magic, encode, body_of, record_of, decode, parse, records_in, start_of, log_of}
 use Rattle.table.specs.declared.Status.TheVariants.{Active, Committed, Aborted}
-use Rattle.table.specs.declared.Known.TheVariants.{Is}
+use Rattle.std.specs.Prelude.{Some}
 use Rattle.table.specs.Entries.{status_of, largest_by}
 use Rattle.clog.specs.Slots.{clog_magic, bits_of, with_bits, high_bits, valid_clog, open_clog, set_slot, record_all, cleared, clear_slots, span_below, codes, loaded_status, entry_of, entries_from, entries_in, settled_code, settled_byte, settled}
 use Rattle.meta.specs.Page.{meta_magic, meta_page, has_meta, good_version, format_no}
@@ -103,7 +103,7 @@ found = run 64 calls (opening_torn 64 (small []) frames).world
 record Computed : Type 0 where
   opened : OpenedWithMeta 64 (small []) (opening_torn 64 (small []) frames)
   slot_is : found.mem.slot ≡ Installed (tid 5)
-  held-active : status_of 5 found.mem.table ≡ Is Active
+  held-active : status_of 5 found.mem.table ≡ Some Active
   untouched : is_in 0 found.mem.touched ≡ false
   held_two : is_in 2 (held found.mem) ≡ true
   mark-zero : found.mem.mark.0 ≡ 0
@@ -132,7 +132,7 @@ unfolding unslot
 cuttable = record {
   zero = λ id e. computed.untouched;
   above = λ id e. omega (arith, computed.mark-zero);
-  active = λ id c e. subst (λ (n : ℕ). status_of n found.mem.table ≡ Is Active) (ap unslot (sym computed.slot_is ∙ e)) computed.held-active;
+  active = λ id c e. subst (λ (n : ℕ). status_of n found.mem.table ≡ Some Active) (ap unslot (sym computed.slot_is ∙ e)) computed.held-active;
 }
 
 -- ---- the theorem says of it
@@ -144,12 +144,12 @@ turned : (k pos : ℕ) → Turned 64 k pos Commit found (opens k pos)
 turned k pos = key-turn 64 (lit≤ tt) (small []) frames calls Commit k pos bytes computed.opened typed quiet cuttable
 
 -- cut in page 2, 5 is Committed and page 2 has its image
-pub committed-now : (t : CommitTime) × (status_in (opens 3 1).world 5 ≡ Is (Committed t))
+pub committed-now : (t : CommitTime) × (status_in (opens 3 1).world 5 ≡ Some (Committed t))
 committed-now = (turned 3 1).committed (tid 5) refl computed.slot_is computed.counts
 
 pub imaged_now : page_in 64 (opens 3 1).world 2 ≡ held_page 64 found 2
 imaged_now = (turned 3 1).imaged (tid 5) refl computed.slot_is computed.counts 2 computed.held_two
 
 -- cut a byte before its record is whole, it is Aborted
-pub abandoned-now : status_in (opens 2 16).world 5 ≡ Is Aborted
+pub abandoned-now : status_in (opens 2 16).world 5 ≡ Some Aborted
 abandoned-now = (turned 2 16).abandoned (tid 5) refl computed.slot_is computed.counts-not

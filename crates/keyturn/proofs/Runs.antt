@@ -7,9 +7,9 @@ use Rattle.fields.specs.Bytes.{le_of, bytes_of, starts, part}
 use Rattle.fields.specs.Files.{File, file_of, content, lay, header, unfit}
 use Rattle.sorted.specs.Sorted.{insert_by, insert_all_by, look_by, ascending_by}
 use Rattle.wal.specs.Records.{log_magic, encode, body_of, record_of, decode, parse, records_in, start_of, log_of}
+use Rattle.table.specs.declared.Status.{Status}
 use Rattle.table.specs.declared.Status.TheVariants.{Committed}
-use Rattle.table.specs.declared.Known.{Known}
-use Rattle.table.specs.declared.Known.TheVariants.{Is}
+use Rattle.std.specs.Prelude.{Option, Some}
 use Rattle.table.specs.Entries.{status_of, largest_by}
 use Rattle.clog.specs.Slots.{clog_magic, bits_of, with_bits, high_bits, valid_clog, open_clog, set_slot, record_all, cleared, clear_slots, span_below, codes, loaded_status, entry_of, entries_from, entries_in, settled_code, settled_byte, settled}
 use Rattle.meta.specs.Page.{meta_magic, meta_page, has_meta, good_version, format_no}
@@ -31,8 +31,8 @@ file n bs = file_of (bs ++ replicate n 0) (length bs)
 abbrev pub tid : ℕ → TransactionId
 tid n = record { 0 = n }
 
-abbrev pub at : ℕ → Known
-at t = Is (Committed (record { 0 = t }))
+abbrev pub at : ℕ → Option Status
+at t = Some (Committed (record { 0 = t }))
 
 -- at pages of 64 bytes: page 0 with next id 6, time 2, mark 0, the log's magic, and a clog's body
 abbrev pub small : List ℕ → Files
@@ -49,11 +49,11 @@ ran f cs = run 64 cs (opening 64 f frames).world
 -- of the opening of files after a cut: its number, the status of an id, the first byte of page 2, and the torn record that was met
 pub record Told : Type 0 where
   pub number : ℕ
-  pub status : Known
+  pub status : Option Status
   pub byte : ℕ
   pub tail : Met
 
-abbrev pub saying : ℕ → Known → ℕ → Met → Told
+abbrev pub saying : ℕ → Option Status → ℕ → Met → Told
 saying n s b t = record { number = n; status = s; byte = b; tail = t }
 
 -- stores cut at (k, pos), in the world that the call finds

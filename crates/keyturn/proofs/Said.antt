@@ -12,9 +12,9 @@ use Rattle.fields.specs.declared.TransactionId.{TransactionId}
 use Rattle.fields.specs.declared.CommitTime.{CommitTime}
 use Rattle.fields.specs.Files.{content}
 use Rattle.fields.proofs.ByteLaws.{length_part, part-byte, part_same}
+use Rattle.table.specs.declared.Status.{Status}
 use Rattle.table.specs.declared.Status.TheVariants.{Committed, Aborted}
-use Rattle.table.specs.declared.Known.{Known}
-use Rattle.table.specs.declared.Known.TheVariants.{Is}
+use Rattle.std.specs.Prelude.{Option, Some}
 use Rattle.frames.specs.Pages.{is_in}
 use Rattle.world.specs.declared.Slot.{Slot}
 use Rattle.world.specs.declared.Slot.TheVariants.{Installed}
@@ -62,8 +62,8 @@ module _ (P : ℕ) (w v : World) (ps : List ℕ) where
 
 -- ---- the call's own id
 
-own-undone : (b : Bool) (c : Call) (w : World) (id : TransactionId) → (c ≡ Commit → ⊥) → own_id c w ≡ Installed id → (old new : Known) → OwnStatus b c old new →
-    (new ≡ kept old) ⊎ (new ≡ Is Aborted)
+own-undone : (b : Bool) (c : Call) (w : World) (id : TransactionId) → (c ≡ Commit → ⊥) → own_id c w ≡ Installed id → (old new : Option Status) → OwnStatus b c old new →
+    (new ≡ kept old) ⊎ (new ≡ Some Aborted)
 own-undone b (Install i ps) w id n e old new h = absurd (never id e)
 own-undone b Uninstall w id n e old new h = absurd (never id e)
 own-undone b AllocId w id n e old new h = absurd (never id e)
@@ -76,11 +76,11 @@ own-undone b Commit w id n e old new h = absurd (n refl)
 own-undone b (Rollback list) w id n e old new h = h
 own-undone b (Advance v) w id n e old new h = absurd (never id e)
 
-own-committed : (b : Bool) (old new : Known) → b ≡ true → OwnStatus b Commit old new → (t : CommitTime) × (new ≡ Is (Committed t))
+own-committed : (b : Bool) (old new : Option Status) → b ≡ true → OwnStatus b Commit old new → (t : CommitTime) × (new ≡ Some (Committed t))
 own-committed true old new e h = h
 own-committed false old new e h = let z : ◌≡◌ {A = ℕ} 0 1 = cc in absurd (omega arith)
 
-own-abandoned : (b : Bool) (old new : Known) → b ≡ false → OwnStatus b Commit old new → new ≡ Is Aborted
+own-abandoned : (b : Bool) (old new : Option Status) → b ≡ false → OwnStatus b Commit old new → new ≡ Some Aborted
 own-abandoned true old new e h = let z : ◌≡◌ {A = ℕ} 0 1 = cc in absurd (omega arith)
 own-abandoned false old new e h = h
 

@@ -6,7 +6,7 @@ use Prim.Native.Nat.{ℕ}
 use Rattle.fields.specs.Bytes.{bytes_of}
 use Rattle.wal.specs.Records.{log_magic}
 use Rattle.table.specs.declared.Status.TheVariants.{Aborted}
-use Rattle.table.specs.declared.Known.TheVariants.{Is, Absent}
+use Rattle.std.specs.Prelude.{Some, None}
 use Rattle.clog.specs.Slots.{clog_magic}
 use Rattle.meta.specs.Page.{meta_magic, meta_page}
 use Rattle.world.specs.World.{World}
@@ -39,16 +39,16 @@ begin-cuts :
     ∷ cut_call 5 empty (Begin (tid 5)) 2 2
     ∷ cut_call 5 empty (Begin (tid 5)) 3 0
     ∷ []
-    ≡ saying 0 Absent 0 unmet
-    ∷ saying 0 Absent 0 unmet
-    ∷ saying 0 Absent 0 (met 8 8)
-    ∷ saying 0 Absent 0 (met 8 1)
-    ∷ saying 0 (Is Aborted) 0 unmet
-    ∷ saying 0 (Is Aborted) 0 unmet
-    ∷ saying 0 (Is Aborted) 0 unmet
-    ∷ saying 0 (Is Aborted) 0 unmet
-    ∷ saying 0 (Is Aborted) 0 unmet
-    ∷ saying 0 (Is Aborted) 0 unmet
+    ≡ saying 0 None 0 unmet
+    ∷ saying 0 None 0 unmet
+    ∷ saying 0 None 0 (met 8 8)
+    ∷ saying 0 None 0 (met 8 1)
+    ∷ saying 0 (Some Aborted) 0 unmet
+    ∷ saying 0 (Some Aborted) 0 unmet
+    ∷ saying 0 (Some Aborted) 0 unmet
+    ∷ saying 0 (Some Aborted) 0 unmet
+    ∷ saying 0 (Some Aborted) 0 unmet
+    ∷ saying 0 (Some Aborted) 0 unmet
     ∷ []
 unfolding cut_call cut_open stores_of ran log_magic clog_magic meta_magic meta_page bytes_of
 begin-cuts = refl
@@ -79,10 +79,10 @@ commit-cuts :
     ∷ cut_call 5 open5 Commit 7 1
     ∷ cut_call 5 open5 Commit 8 0
     ∷ []
-    ≡ saying 0 (Is Aborted) 0 unmet
-    ∷ saying 0 (Is Aborted) 0 (met 17 1)
-    ∷ saying 0 (Is Aborted) 7 unmet
-    ∷ saying 0 (Is Aborted) 7 (met 86 1)
+    ≡ saying 0 (Some Aborted) 0 unmet
+    ∷ saying 0 (Some Aborted) 0 (met 17 1)
+    ∷ saying 0 (Some Aborted) 7 unmet
+    ∷ saying 0 (Some Aborted) 7 (met 86 1)
     ∷ saying 0 (at 2) 7 unmet
     ∷ saying 0 (at 2) 7 unmet
     ∷ saying 0 (at 2) 7 unmet
@@ -106,10 +106,10 @@ without :
     ∷ cut_call 1 (ran (small (8 ∷ [])) (Begin (tid 5) ∷ Write 0 [] ∷ Flush 0 ∷ [])) Commit 1 68
     ∷ cut_call 1 (ran (small (8 ∷ [])) (Begin (tid 5) ∷ Write 0 [] ∷ Flush 0 ∷ [])) Commit 1 69
     ∷ []
-    ≡ saying 0 Absent 0 unmet
-    ∷ saying 0 Absent 0 unmet
+    ≡ saying 0 None 0 unmet
+    ∷ saying 0 None 0 unmet
     ∷ saying 0 (at 0) 0 (met 17 1)
-    ∷ saying 0 Absent 0 unmet
+    ∷ saying 0 None 0 unmet
     ∷ []
 unfolding cut_call cut_open stores_of ran log_magic clog_magic meta_magic meta_page bytes_of
 without = refl

@@ -13,8 +13,7 @@ use Rattle.fields.specs.Files.{File, room}
 use Rattle.wal.specs.Records.{Record}
 use Rattle.table.specs.declared.Status.{Status}
 use Rattle.table.specs.declared.Status.TheVariants.{Active}
-use Rattle.table.specs.declared.Known.{Known}
-use Rattle.table.specs.declared.Known.TheVariants.{Is}
+use Rattle.std.specs.Prelude.{Option, Some}
 use Rattle.table.specs.Entries.{insert_entry, status_of}
 use Rattle.table.proofs.Facts.{settled_known}
 use Rattle.clog.specs.Slots.{code_of, set_slot}
@@ -48,7 +47,7 @@ use Rattle.keyturn.proofs.Adds.{Adds, adds_none, DbKept, ClogKept, log_is, db-sa
 
 -- ---- the call's own status
 
-own-early : (c : Call) (old new : Known) → (c ≡ Commit → old ≡ Is Active) → new ≡ kept old → OwnStatus false c old new
+own-early : (c : Call) (old new : Option Status) → (c ≡ Commit → old ≡ Some Active) → new ≡ kept old → OwnStatus false c old new
 own-early (Install id ps) old new a e = tt
 own-early Uninstall old new a e = tt
 own-early AllocId old new a e = tt
@@ -89,7 +88,7 @@ own-above Commit w a id e = a id e
 own-above (Rollback list) w a id e = a id e
 own-above (Advance v) w a id e = absurd (no_own id.0 e)
 
-own-active : (P : ℕ) (c : Call) (w : World) → Asked P c w → (id : TransactionId) → own_id c w ≡ Installed id → c ≡ Commit → status_of id.0 w.mem.table ≡ Is Active
+own-active : (P : ℕ) (c : Call) (w : World) → Asked P c w → (id : TransactionId) → own_id c w ≡ Installed id → c ≡ Commit → status_of id.0 w.mem.table ≡ Some Active
 own-active P c w q id e h = q.active id h (subst (λ (x : Call). own_id x w ≡ Installed id) h e)
 
 module _ (P : ℕ) (big : 36 ≤ P) (w : World) (v : Kept P w) where
@@ -155,8 +154,8 @@ module _ (P : ℕ) (big : 36 ≤ P) (w : World) (v : Kept P w) where
 
   module _ (c : Call) (counts : Bool) (id : TransactionId) (s : Status) (own : own_id c w ≡ Installed id) (fit : 8 + id.0 / 4 < room w.files.clog)
       (few : length (insert_entry (record { id = id; status = s }) w.mem.table) ≤ 256)
-      (said : OwnStatus counts c (status_of id.0 w.mem.table) (settled_known (Is s)))
-      (slotted : OwnStatus counts c (status_of id.0 w.mem.table) (kept (Is s))) where
+      (said : OwnStatus counts c (status_of id.0 w.mem.table) (settled_known (Some s)))
+      (slotted : OwnStatus counts c (status_of id.0 w.mem.table) (kept (Some s))) where
     fewer : (t : ℕ) → NotOwn (own_id c w) t → NotOwn (Installed id) t
     fewer t n e = n (own ∙ e)
 
@@ -164,7 +163,7 @@ module _ (P : ℕ) (big : 36 ≤ P) (w : World) (v : Kept P w) where
     unslot (Installed i) = i.0
     unslot Empty = 0
 
-    own-by : (k : ℕ → Known) → OwnStatus counts c (status_of id.0 w.mem.table) (k id.0) → (i : TransactionId) → own_id c w ≡ Installed i →
+    own-by : (k : ℕ → Option Status) → OwnStatus counts c (status_of id.0 w.mem.table) (k id.0) → (i : TransactionId) → own_id c w ≡ Installed i →
         OwnStatus counts c (status_of i.0 w.mem.table) (k i.0)
     unfolding unslot
     own-by k h i e =
@@ -172,19 +171,19 @@ module _ (P : ℕ) (big : 36 ≤ P) (w : World) (v : Kept P w) where
         subst (λ (n : ℕ). OwnStatus counts c (status_of n w.mem.table) (k n)) q h
 
     pub late-added : (zs : List Record) (g : Files) → LogIs P g.log (old ++ zs) → Adds P (Installed id) (room w.files.db) (room w.files.clog) zs →
-        last_word id.0 zs ≡ Is s → DbKept P w (mark_of c w) g → ClogKept w (Installed id) (mark_of c w) g → PagesBy counts P w (written c w) (left P (old ++ zs) g) →
+        last_word id.0 zs ≡ Some s → DbKept P w (mark_of c w) g → ClogKept w (Installed id) (mark_of c w) g → PagesBy counts P w (written c w) (left P (old ++ zs) g) →
         Reached P counts c w g
     late-added zs g l a h d k p =
         build P big w v c counts (Installed id) (old ++ zs) g (mark-higher c w) (mid-added P w v (Installed id) (mark_of c w) zs g l a d k)
         (insert_entry (record { id = id; status = s }) w.mem.table) (bound-set P w id s v few) fewer
-        (own-by (found (old ++ zs) g.clog) (subst (λ (x : Known). OwnStatus counts c (status_of id.0 w.mem.table) x) (sym (found_word P w v zs g.clog id.0 s h)) said)) p
+        (own-by (found (old ++ zs) g.clog) (subst (λ (x : Option Status). OwnStatus counts c (status_of id.0 w.mem.table) x) (sym (found_word P w v zs g.clog id.0 s h)) said)) p
 
     pub late-cut : (g : Files) → LogIs P g.log [] → DbKept P w (mark_of c w) g → g.clog ≡ set_slot 8 id.0 (code_of s) w.files.clog →
         PagesBy counts P w (written c w) (left P [] g) → Reached P counts c w g
     late-cut g l d k p =
         build P big w v c counts (Installed id) [] g (mark-higher c w) (mid-cut P w v (Installed id) (mark_of c w) g l d (clog-set P w v g id s (mark_of c w) k fit))
         (insert_entry (record { id = id; status = s }) w.mem.table) (bound-set P w id s v few) fewer
-        (own-by (found [] g.clog) (subst (λ (x : Known). OwnStatus counts c (status_of id.0 w.mem.table) x)
+        (own-by (found [] g.clog) (subst (λ (x : Option Status). OwnStatus counts c (status_of id.0 w.mem.table) x)
         (sym (found-slot P w v g.clog id.0 ∙ set-loads P w v g id s k fit)) slotted)) p
 
     -- ---- the end of a commit and of a rollback with pages: checkpoint, truncation, meta
@@ -219,6 +218,6 @@ module _ (P : ℕ) (big : 36 ≤ P) (w : World) (v : Kept P w) where
 
         -- all images in the log, pages of the call written or not
         pub with-images : (g : Files) → LogIs P g.log (old ++ all ys) → Adds P (Installed id) (room w.files.db) (room w.files.clog) (all ys) →
-            last_word id.0 (all ys) ≡ Is s → DbKept P w (mark_of c w) g → ClogKept w (Installed id) (mark_of c w) g →
+            last_word id.0 (all ys) ≡ Some s → DbKept P w (mark_of c w) g → ClogKept w (Installed id) (mark_of c w) g →
             ((p i : ℕ) → 0 < p → is_in p (written c w) ≡ false → i < P → byte_of g.db (p * P + i) ≡ byte_of w.files.db (p * P + i)) → Goal g
         with-images g l a h d k out = late-added (all ys) g l a h d k (by-full counts (left P (old ++ all ys) g) (full-pages P w v xs ys (written c w) g px py out))

@@ -30,9 +30,9 @@ use Rattle.fields.specs.declared.CommitTime.{CommitTime}
 use Rattle.fields.specs.Bytes.{part}
 use Rattle.fields.specs.Files.{content}
 use Rattle.wal.specs.Records.{commit, encode}
+use Rattle.table.specs.declared.Status.{Status}
 use Rattle.table.specs.declared.Status.TheVariants.{Active, Committed, Aborted}
-use Rattle.table.specs.declared.Known.{Known}
-use Rattle.table.specs.declared.Known.TheVariants.{Is}
+use Rattle.std.specs.Prelude.{Option, Some}
 use Rattle.table.specs.Entries.{status_of}
 use Rattle.frames.specs.Pages.{is_in}
 use Rattle.world.specs.declared.Slot.{Slot}
@@ -85,12 +85,12 @@ counted P k pos id w = decided (refuses P Commit w) (record_whole id.0 w.mem.tim
 pub record Cuttable (c : Call) (w : World) : Type 0 where
   pub zero : (id : TransactionId) → w.mem.slot ≡ Installed id → is_in 0 w.mem.touched ≡ false
   pub above : (id : TransactionId) → own_id c w ≡ Installed id → w.mem.mark.0 ≤ id.0
-  pub active : (id : TransactionId) → c ≡ Commit → w.mem.slot ≡ Installed id → status_of id.0 w.mem.table ≡ Is Active
+  pub active : (id : TransactionId) → c ≡ Commit → w.mem.slot ≡ Installed id → status_of id.0 w.mem.table ≡ Some Active
 
 -- ---- conclusions
 
 -- the status of an id in a world; and the bytes of a page of its database, those past the file's end as zeros
-abbrev pub status_in : World → ℕ → Known
+abbrev pub status_in : World → ℕ → Option Status
 status_in w t = status_of t w.mem.table
 
 abbrev pub page_in : ℕ → World → ℕ → List ℕ
@@ -100,12 +100,12 @@ page_in P w p = part P (content w.files.db) (p * P)
 pub record Turned (P k pos : ℕ) (c : Call) (w : World) (o : Opening) : Type 0 where
   pub accepted : o.number ≡ 0
   pub committed : (id : TransactionId) → c ≡ Commit → w.mem.slot ≡ Installed id → counted P k pos id w ≡ true →
-      (t : CommitTime) × (status_in o.world id.0 ≡ Is (Committed t))
+      (t : CommitTime) × (status_in o.world id.0 ≡ Some (Committed t))
   pub imaged : (id : TransactionId) → c ≡ Commit → w.mem.slot ≡ Installed id → counted P k pos id w ≡ true → (p : ℕ) → is_in p (held w.mem) ≡ true →
       page_in P o.world p ≡ held_page P w p
-  pub abandoned : (id : TransactionId) → c ≡ Commit → w.mem.slot ≡ Installed id → counted P k pos id w ≡ false → status_in o.world id.0 ≡ Is Aborted
+  pub abandoned : (id : TransactionId) → c ≡ Commit → w.mem.slot ≡ Installed id → counted P k pos id w ≡ false → status_in o.world id.0 ≡ Some Aborted
   pub undone : (id : TransactionId) → (c ≡ Commit → ⊥) → own_id c w ≡ Installed id →
-      (status_in o.world id.0 ≡ kept (status_in w id.0)) ⊎ (status_in o.world id.0 ≡ Is Aborted)
+      (status_in o.world id.0 ≡ kept (status_in w id.0)) ⊎ (status_in o.world id.0 ≡ Some Aborted)
   pub others : (t : ℕ) → (keeps P c w).mem.mark.0 ≤ t → (own_id c w ≡ Installed (record { 0 = t }) → ⊥) → status_in o.world t ≡ kept (status_in w t)
   pub either : (p : ℕ) → 0 < p → is_in p (pages_in (steps P c w)) ≡ true → (page_in P o.world p ≡ page_in P w p) ⊎ (page_in P o.world p ≡ held_page P w p)
   pub same : (p : ℕ) → 0 < p → is_in p (pages_in (steps P c w)) ≡ false → page_in P o.world p ≡ page_in P w p

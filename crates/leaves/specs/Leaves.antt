@@ -2,9 +2,8 @@
 -- after the last; all four are written at every call, refused ones too. What a call tells and leaves is defined by the crates wal, clog, xacts, shrunk and meta.
 -- Assumes nothing.
 use Rattle.std.specs.Prelude.{ℕ, List, [], ◌∷◌, ◌++◌, map, cond, get_or, ltb}
-use Rattle.fields.specs.declared.Answer.TheVariants.{Refused}
 use Rattle.fields.specs.Files.{File, room}
-use Rattle.fields.specs.Answers.{Told, Outcome, outcome}
+use Rattle.fields.specs.Answers.{Told, Outcome}
 use Rattle.table.specs.Entries.{list_of}
 use Rattle.clog.specs.Slots.{code_of}
 use Rattle.clog.specs.Calls.{unfit, recorded, LoadOutcome}
@@ -38,7 +37,7 @@ left_by o = record { told = said_by o.told; bytes = o.bytes }
 -- first. A status goes to the call by its code.
 unfoldable pub by_tag : ℕ → File → (ℕ → Outcome) → ℕ → ℕ → Outcome
 by_tag least f call tag time =
-    cond (ltb 2 tag) (outcome (Refused (cond (unfit least (room f) f.len) 1 14)) f.bytes) (call (code_of (status_in tag time)))
+    cond (ltb 2 tag) (left (cond (unfit least (room f) f.len) 1 14) [] f.bytes) (call (code_of (status_in tag time)))
 
 -- recorded for an id, in a clog and in a file of the second form
 unfoldable pub recorded_tag : File → ℕ → ℕ → ℕ → Outcome

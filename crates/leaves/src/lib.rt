@@ -3,14 +3,15 @@
 // to the host.
 #![tactic(auto)]
 
-ghost use Rattle.std.specs.Prelude.{◌≡◌, [], ◌∷◌, cond, get_or};
+ghost use Rattle.std.specs.Prelude.{◌≡◌, ℕ, List, [], ◌∷◌, cond, Ok};
 ghost use Rattle.std.proofs.lemmas.List.Edits.{sets};
 ghost use Rattle.fields.specs.Files.{file_of};
+ghost use Rattle.fields.specs.Refusals.{number_of};
 ghost use Rattle.fields.specs.Answers.{told};
 ghost use Rattle.wal.specs.Records.{image, begin, commit, abort, checkpoint};
 ghost use Rattle.wal.specs.Reading.{record_told, read_told, read_in, start_in};
 ghost use Rattle.wal.specs.Writing.{appended, truncated};
-ghost use Rattle.clog.specs.Calls.{unfit, opened, wiped, compacted, loaded};
+ghost use Rattle.clog.specs.Calls.{unfit, opened, wiped, compacted, load_outcome, loaded_of, loaded};
 ghost use Rattle.meta.specs.Page.{format_no, stored_told, meta_in, meta_page};
 ghost use Rattle.rows.specs.Rows.{status_in};
 ghost use Rattle.words.specs.Values.{said, four};
@@ -18,13 +19,10 @@ ghost use Rattle.xacts.specs.Calls.{written, read_back};
 ghost use Rattle.shrunk.specs.Calls.{moved_second, moved_first, compacted_second, loaded_second};
 ghost use Rattle.leaves.specs.Leaves.{said_by, meta_said, left, left_by, recorded_tag, recorded_second_tag, handed, handed_by};
 
-use fields::{Answer, CommitTime, TransactionId, numbers};
-use meta::{Counters, Stored};
-use table::Status;
+use fields::{CommitTime, Refusal, TransactionId, numbers};
+use meta::Counters;
+use table::{Status, Table};
 use wal::{Read, WalRecord};
-
-// The header of a clog in its second form.
-const SECOND_HEADER: usize = 13;
 
 // ---- the number and the four values
 
@@ -36,12 +34,12 @@ fn put(number: u8, a: u64, b: u64, c: u64, d: u64, values: &mut [u64; 4]) -> u8
     number
 }
 
-fn tell(a: Answer, values: &mut [u64; 4]) -> u8
+fn tell(a: Result<usize, Refusal>, values: &mut [u64; 4]) -> u8
     ensures { said result values.new ≡ said_by (told a) }
 {
     match a {
-        Answer::Accepted(len) => put(numbers::ACCEPTED, len as u64, 0, 0, 0, values),
-        Answer::Refused(number) => put(number, 0, 0, 0, 0, values),
+        Ok(len) => put(numbers::ACCEPTED, len as u64, 0, 0, 0, values),
+        Err(refused) => put(refused.number(), 0, 0, 0, 0, values),
     }
 }
 
@@ -70,19 +68,27 @@ fn tell_read(r: Read, values: &mut [u64; 4]) -> u8
     match r {
         Read::Found(found, next) => tell_record(found, next, values),
         Read::End => put(numbers::ACCEPTED, 0, 0, 0, 0, values),
-        Read::Torn(missing) => put(numbers::TORN, missing as u64, 0, 0, 0, values),
-        Read::Unknown => put(numbers::UNKNOWN_TAG, 0, 0, 0, 0, values),
-        Read::Outside => put(numbers::UNFIT, 0, 0, 0, 0, values),
+        Read::Torn(missing) => put(Refusal::Torn.number(), missing as u64, 0, 0, 0, values),
+        Read::Unknown => put(Refusal::UnknownTag.number(), 0, 0, 0, 0, values),
+        Read::Outside => put(Refusal::Unfit.number(), 0, 0, 0, 0, values),
     }
 }
 
-fn tell_stored(s: Stored, values: &mut [u64; 4]) -> u8
+fn tell_counters(stored: Option<Counters>, values: &mut [u64; 4]) -> u8
+    ensures { said result values.new ≡ meta_said (stored_told (Ok stored)) }
+{
+    match stored {
+        Some(m) => put(numbers::ACCEPTED, m.next.0, m.time.0, m.mark.0, 1, values),
+        None => put(numbers::ACCEPTED, 0, 0, 0, 0, values),
+    }
+}
+
+fn tell_stored(s: Result<Option<Counters>, Refusal>, values: &mut [u64; 4]) -> u8
     ensures { said result values.new ≡ meta_said (stored_told s) }
 {
     match s {
-        Stored::Meta(m) => put(numbers::ACCEPTED, m.next.0, m.time.0, m.mark.0, 1, values),
-        Stored::Nothing => put(numbers::ACCEPTED, 0, 0, 0, 0, values),
-        Stored::Outside => put(numbers::UNFIT, 0, 0, 0, 0, values),
+        Ok(stored) => tell_counters(stored, values),
+        Err(refusal) => put(refusal.number(), 0, 0, 0, 0, values),
     }
 }
 
@@ -104,15 +110,13 @@ pub fn nyotmelang_log_read(log: &[u8], len: usize, at: usize, values: &mut [u64;
 pub fn nyotmelang_log_append_begin(log: &mut [u8], len: usize, id: u64, values: &mut [u64; 4]) -> u8
     ensures { left result values.new log.new ≡ left_by (appended (begin id) (file_of log.old len)) }
 {
-    let a = wal::append_begin(log, len, TransactionId(id));
-    tell(a, values)
+    tell(wal::append_begin(log, len, TransactionId(id)), values)
 }
 
 pub fn nyotmelang_log_append_abort(log: &mut [u8], len: usize, id: u64, values: &mut [u64; 4]) -> u8
     ensures { left result values.new log.new ≡ left_by (appended (abort id) (file_of log.old len)) }
 {
-    let a = wal::append_abort(log, len, TransactionId(id));
-    tell(a, values)
+    tell(wal::append_abort(log, len, TransactionId(id)), values)
 }
 
 pub fn nyotmelang_log_append_commit(
@@ -124,15 +128,16 @@ pub fn nyotmelang_log_append_commit(
 ) -> u8
     ensures { left result values.new log.new ≡ left_by (appended (commit id time) (file_of log.old len)) }
 {
-    let a = wal::append_commit(log, len, TransactionId(id), CommitTime(time));
-    tell(a, values)
+    tell(
+        wal::append_commit(log, len, TransactionId(id), CommitTime(time)),
+        values,
+    )
 }
 
 pub fn nyotmelang_log_append_checkpoint(log: &mut [u8], len: usize, values: &mut [u64; 4]) -> u8
     ensures { left result values.new log.new ≡ left_by (appended checkpoint (file_of log.old len)) }
 {
-    let a = wal::append_checkpoint(log, len);
-    tell(a, values)
+    tell(wal::append_checkpoint(log, len), values)
 }
 
 pub fn nyotmelang_log_append_page(
@@ -144,15 +149,13 @@ pub fn nyotmelang_log_append_page(
 ) -> u8
     ensures { left result values.new log.new ≡ left_by (appended (image page bytes.now) (file_of log.old len)) }
 {
-    let a = wal::append_page(log, len, page, bytes);
-    tell(a, values)
+    tell(wal::append_page(log, len, page, bytes), values)
 }
 
 pub fn nyotmelang_log_truncate(log: &mut [u8], len: usize, values: &mut [u64; 4]) -> u8
     ensures { left result values.new log.new ≡ left_by (truncated (file_of log.old len)) }
 {
-    let a = wal::truncate(log, len);
-    tell(a, values)
+    tell(wal::truncate(log, len), values)
 }
 
 // ---- the clog
@@ -160,15 +163,13 @@ pub fn nyotmelang_log_truncate(log: &mut [u8], len: usize, values: &mut [u64; 4]
 pub fn nyotmelang_clog_open(clog: &mut [u8], len: usize, values: &mut [u64; 4]) -> u8
     ensures { left result values.new clog.new ≡ left_by (opened (file_of clog.old len)) }
 {
-    let a = clog::open(clog, len);
-    tell(a, values)
+    tell(clog::open(clog, len), values)
 }
 
 pub fn nyotmelang_clog_reset(clog: &mut [u8], len: usize, values: &mut [u64; 4]) -> u8
     ensures { left result values.new clog.new ≡ left_by (wiped (file_of clog.old len)) }
 {
-    let a = clog::reset(clog, len);
-    tell(a, values)
+    tell(clog::reset(clog, len), values)
 }
 
 // The status of a tag that is one.
@@ -184,17 +185,15 @@ fn status_in(tag: u64, time: u64) -> Status
     Status::Aborted
 }
 
-// What a tag that is no status is refused with: 1 where the buffer or the length is unfit, else 14.
-fn no_status(size: usize, len: usize, least: usize) -> u8
-    ensures { result ≡ cond (unfit least size len) 1 14 }
+// What a tag that is no status is refused with: the buffer and the length are tested first.
+fn no_status(size: usize, len: usize, least: usize) -> Refusal
+    ensures { number_of result ≡ cond (unfit least size len) 1 14 }
 {
-    if fields::is_unfit(numbers::CLOG_LIMIT, size, len) {
-        return numbers::UNFIT;
+    if clog::bad_length(least, size, len) {
+        Refusal::Unfit
+    } else {
+        Refusal::OutOfForm
     }
-    if len < least {
-        return numbers::UNFIT;
-    }
-    numbers::OUT_OF_FORM
 }
 
 // The clog keeps no time: it is taken so that a status is told as everywhere else.
@@ -209,34 +208,33 @@ pub fn nyotmelang_clog_record(
     ensures { left result values.new clog.new ≡ left_by (recorded_tag (file_of clog.old len) id status time) }
 {
     if 2 < status {
-        return put(
-            no_status(clog.len(), len, numbers::HEADER),
-            0,
-            0,
-            0,
-            0,
-            values,
-        );
+        return tell(Err(no_status(clog.len(), len, numbers::HEADER)), values);
     }
     let s = status_in(status, time);
-    let a = clog::record(clog, len, TransactionId(id), s);
-    tell(a, values)
+    tell(clog::record(clog, len, TransactionId(id), s), values)
 }
 
 pub fn nyotmelang_clog_compact(clog: &mut [u8], len: usize, below: u64, values: &mut [u64; 4]) -> u8
     ensures { left result values.new clog.new ≡ left_by (compacted 8 0 (file_of clog.old len) below) }
 {
-    let a = clog::compact(clog, len, TransactionId(below));
-    tell(a, values)
+    tell(clog::compact(clog, len, TransactionId(below)), values)
 }
 
-// A load's answer, with how many entries its table has.
-fn tell_load(a: Answer, entries: usize, values: &mut [u64; 4]) -> u8
-    ensures { said result values.new ≡ said (told a).number (four (get_or (told a).values 0 0 ∷ entries ∷ [])) }
+// A load's answer: its table's entries are laid in front of the rows, and told are the length that was given and how many they are.
+fn hand_load(
+    loaded: Result<Table, Refusal>,
+    len: usize,
+    rows: &mut [[u64; 3]; 256],
+    values: &mut [u64; 4],
+) -> u8
+    ensures { (b : List ℕ) → handed result values.new b rows.new ≡ handed_by rows.old (load_outcome (loaded_of len loaded) b) }
 {
-    match a {
-        Answer::Accepted(len) => put(numbers::ACCEPTED, len as u64, entries as u64, 0, 0, values),
-        Answer::Refused(number) => put(number, 0, entries as u64, 0, 0, values),
+    match loaded {
+        Ok(t) => {
+            rows::lay_table(rows, t);
+            put(numbers::ACCEPTED, len as u64, t.count as u64, 0, 0, values)
+        }
+        Err(why) => put(why.number(), 0, 0, 0, 0, values),
     }
 }
 
@@ -248,11 +246,7 @@ pub fn nyotmelang_clog_load(
 ) -> u8
     ensures { handed result values.new clog.new rows.new ≡ handed_by rows.old (loaded 256 8 0 (file_of clog.old len)) }
 {
-    let r = clog::load(clog, len);
-    let a = r.answer;
-    let t = r.table;
-    rows::lay_table(rows, t);
-    tell_load(a, t.count, values)
+    hand_load(clog::load(clog, len), len, rows, values)
 }
 
 // ---- status pages
@@ -266,15 +260,16 @@ pub fn nyotmelang_clog_write_pages(
 ) -> u8
     ensures { left result values.new out.new ≡ left_by (written 8192 mark (file_of clog.now len) out.old) }
 {
-    let a = xacts::write_pages(clog, len, TransactionId(mark), out);
-    tell(a, values)
+    tell(
+        xacts::write_pages(clog, len, TransactionId(mark), out),
+        values,
+    )
 }
 
 pub fn nyotmelang_clog_read_pages(pages: &[u8], out: &mut [u8], values: &mut [u64; 4]) -> u8
     ensures { left result values.new out.new ≡ left_by (read_back 8192 pages.now out.old) }
 {
-    let a = xacts::read_pages(pages, out);
-    tell(a, values)
+    tell(xacts::read_pages(pages, out), values)
 }
 
 // ---- the second form of a clog
@@ -288,8 +283,10 @@ pub fn nyotmelang_clog_to_second(
 ) -> u8
     ensures { left result values.new out.new ≡ left_by (moved_second mark (file_of clog.now len) out.old) }
 {
-    let a = shrunk::to_second(clog, len, TransactionId(mark), out);
-    tell(a, values)
+    tell(
+        shrunk::to_second(clog, len, TransactionId(mark), out),
+        values,
+    )
 }
 
 pub fn nyotmelang_clog_to_first(
@@ -300,8 +297,7 @@ pub fn nyotmelang_clog_to_first(
 ) -> u8
     ensures { left result values.new out.new ≡ left_by (moved_first (file_of second.now len) out.old) }
 {
-    let a = shrunk::to_first(second, len, out);
-    tell(a, values)
+    tell(shrunk::to_first(second, len, out), values)
 }
 
 pub fn nyotmelang_second_record(
@@ -315,18 +311,16 @@ pub fn nyotmelang_second_record(
     ensures { left result values.new second.new ≡ left_by (recorded_second_tag (file_of second.old len) id status time) }
 {
     if status > 2 {
-        return put(
-            no_status(second.len(), len, SECOND_HEADER),
-            0,
-            0,
-            0,
-            0,
+        return tell(
+            Err(no_status(second.len(), len, numbers::SECOND_HEADER)),
             values,
         );
     }
     let taken = status_in(status, time);
-    let a = shrunk::record(second, len, TransactionId(id), taken);
-    tell(a, values)
+    tell(
+        shrunk::record(second, len, TransactionId(id), taken),
+        values,
+    )
 }
 
 pub fn nyotmelang_second_compact(
@@ -337,8 +331,7 @@ pub fn nyotmelang_second_compact(
 ) -> u8
     ensures { left result values.new second.new ≡ left_by (compacted_second (file_of second.old len) below) }
 {
-    let a = shrunk::compact(second, len, TransactionId(below));
-    tell(a, values)
+    tell(shrunk::compact(second, len, TransactionId(below)), values)
 }
 
 pub fn nyotmelang_second_load(
@@ -349,11 +342,7 @@ pub fn nyotmelang_second_load(
 ) -> u8
     ensures { handed result values.new second.new rows.new ≡ handed_by rows.old (loaded_second 256 (file_of second.old len)) }
 {
-    let loaded = shrunk::load(second, len);
-    let answer = loaded.answer;
-    let found = loaded.table;
-    rows::lay_table(rows, found);
-    tell_load(answer, found.count, values)
+    hand_load(shrunk::load(second, len), len, rows, values)
 }
 
 // ---- page 0
@@ -361,7 +350,10 @@ pub fn nyotmelang_second_load(
 pub fn nyotmelang_meta_format(db: &[u8], len: usize) -> u8
     ensures { result ≡ format_no 4096 (file_of db.now len) }
 {
-    meta::format_no(db, len)
+    match meta::check_format(db, len) {
+        Ok(()) => numbers::ACCEPTED,
+        Err(refusal) => refusal.number(),
+    }
 }
 
 pub fn nyotmelang_meta_read(db: &[u8], len: usize, values: &mut [u64; 4]) -> u8

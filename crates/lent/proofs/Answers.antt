@@ -3,8 +3,7 @@
 use Prim.Native.Nat.{ℕ}
 use mathlib.Core.Path.{◌≡◌, sym, ap, ◌∙◌}
 use mathlib.Core.List.{List}
-use Rattle.lent.specs.declared.Reply.{Reply}
-use Rattle.lent.specs.Lent.{lent, Left, leaving}
+use Rattle.lent.specs.Lent.{Reply, lent, Left, leaving}
 
 -- the three arrays
 pub record SameArrays (a a' : List (List ℕ)) (b b' c c' : List ℕ) : Type 0 where

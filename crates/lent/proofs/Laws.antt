@@ -6,10 +6,10 @@ use mathlib.Core.List.{List, map}
 use mathlib.Core.Bool.{Bool, true, false, cond, not, ◌||◌, ◌&&◌}
 use lib.ListN.{length, length-map, take}
 use lib.Dec.{ltb, eqb}
-use borrow.Author.Tests.{ltb-false, eqb-true, le-leb, lt-leb}
+use borrow.Author.Tests.{ltb-false, eqb-true, le-leb, lt-leb, lt-ltb, le-ltb}
 use Rattle.fields.specs.declared.TransactionId.{TransactionId}
 use Rattle.fields.specs.Answers.{no_id}
-use Rattle.fields.proofs.Tests.{neither, passed}
+use Rattle.fields.proofs.Tests.{neither, passed, Order, less, most, order}
 use Rattle.sorted.specs.Sorted.{laid_on}
 use Rattle.sorted.proofs.Laws.{laid-own}
 use Rattle.table.specs.Entries.{list_of, well_formed}
@@ -110,6 +110,21 @@ module _ (s : Lent) (z : Fit s) where
   unfolding store_of well_formed
   rows-bad h =
       rw (le-leb s.head.entries 256 h, ← map_first s.head.entries s.rows) (sym (bad-is (take s.head.entries s.rows)))
+
+  -- both tests of the rows
+  rows-test : (any_odd (take s.head.entries s.rows) || not (well_formed 256 (store_of s).table)) ≡ (ltb 256 s.head.entries || bad_rows (take s.head.entries s.rows))
+  rows-test = go (order 256 s.head.entries)
+    where
+      go : Order 256 s.head.entries → (any_odd (take s.head.entries s.rows) || not (well_formed 256 (store_of s).table)) ≡ (ltb 256 s.head.entries || bad_rows (take s.head.entries s.rows))
+      go (less h) = rows-over h ∙ rw (lt-ltb 256 s.head.entries h)
+      go (most h) = rows-bad h ∙ rw (le-ltb 256 s.head.entries h)
+
+  pub bad-tests : (P size : ℕ) →
+      (odd s || out_of_form P (store_of s) size) ≡
+      (odd_head s.head || (ltb s.head.lens.log 8 || (ltb s.head.lens.clog 8 || ((ltb 256 s.head.entries || bad_rows (take s.head.entries s.rows)) ||
+      (not (touched_formed 64 (record { pages = s.touched; count = s.head.touched })) ||
+      not (frames_formed 64 P (record { pages = s.resident; count = s.head.resident }) size))))))
+  bad-tests P size = bad-lent P size ∙ rw rows-test
 
 -- ---- what a refusal leaves
 

@@ -2,7 +2,9 @@
 -- calls are defined over (crate form); what a call leaves there are the lists of the store after it, laid in front of the arrays. A refusal changes nothing.
 -- Not every head and every row is a store's: a page count of more than 32 bits, a place that is neither empty (0, with the id 0) nor taken (1), a row that is no
 -- entry's are out of form, 14 after 1, for every call. P is the page size. Assumes nothing.
-use Rattle.std.specs.Prelude.{ℕ, List, map, Bool, cond, not, ◌&&◌, ◌||◌, take, ltb, eqb}
+use Rattle.std.specs.Prelude.{ℕ, List, map, Bool, cond, not, ◌&&◌, ◌||◌, take, ltb, eqb, Result, Ok, Err}
+use Rattle.fields.specs.declared.refusal.Refusal.{Refusal}
+use Rattle.fields.specs.Refusals.{number_of}
 use Rattle.fields.specs.declared.TransactionId.{TransactionId}
 use Rattle.fields.specs.Answers.{no_id}
 use Rattle.sorted.specs.Sorted.{laid_on}
@@ -83,6 +85,16 @@ unfoldable pub laid_lent : Lent → Store → Lent
 laid_lent s u =
     lent (head_of u) (laid_on s.rows (map row_of (list_of u.table))) (laid_on s.resident (resident_of u.frames))
     (laid_on s.touched (touched_of u.held.touched))
+
+-- ---- what a call answers: its number, and the head after it; a refused call leaves the head h
+
+pub record Reply : Type 0 where
+  pub number : ℕ
+  pub head : Head
+
+abbrev pub replied : Head → Result Head Refusal → Reply
+replied h (Ok g) = record { number = 0; head = g }
+replied h (Err r) = record { number = number_of r; head = h }
 
 -- ---- what a call leaves: its number, the store where it stands, and every byte of the four buffers
 

@@ -3,12 +3,13 @@
 #![tactic(auto)]
 
 ghost use Rattle.std.specs.Prelude.{◌≡◌, ◌||◌};
+ghost use Rattle.fields.specs.Refusals.{number_in};
 ghost use Rattle.world.specs.Refusals.{front_no};
 ghost use Rattle.form.specs.Store.{world_of};
 ghost use Rattle.form.specs.Inside.{out_of_form};
 ghost use Rattle.lent.specs.Lent.{lent, store_of, odd_head, odd, unless_odd};
 
-use fields::{CommitTime, TransactionId, numbers};
+use fields::{CommitTime, Refusal, TransactionId, numbers};
 use world::Lens;
 
 // The most entries.
@@ -30,27 +31,12 @@ pub struct Head {
     pub touched: usize,
 }
 
-// What a call answers: its number and the head after it.
-#[derive(Clone, Copy)]
-pub struct Reply {
-    pub number: u8,
-    pub head: Head,
-}
-
 // Whether no store has such a head.
+#[tactic(auto, unfolding(crate::specs::Lent::odd_head))]
 fn is_odd(h: Head) -> bool
     ensures { result ≡ odd_head h }
 {
-    if 4294967295 < h.pages {
-        return true;
-    }
-    if 1 < h.held {
-        return true;
-    }
-    if h.held != 0 {
-        return false;
-    }
-    h.id.0 != 0
+    4294967295 < h.pages || 1 < h.held || h.held == 0 && h.id.0 != 0
 }
 
 // Whether no store stands there, or one that is out of form, for a frame buffer of this size. The table is tested in one pass, for statuses and order.
@@ -63,35 +49,17 @@ fn is_bad(
 ) -> bool
     ensures { result ≡ (odd (lent h rows.now resident.now touched.now) || out_of_form 4096 (store_of (lent h rows.now resident.now touched.now)) size) }
 {
-    // Nothing reads these slices: with them the proof knows the arrays' sizes.
-    let a = &rows[..];
-    let b = &resident[..];
-    let c = &touched[..];
-    if is_odd(h) {
-        return true;
-    }
-    let lens = h.lens;
-    if lens.log < numbers::HEADER {
-        return true;
-    }
-    if lens.clog < numbers::HEADER {
-        return true;
-    }
-    if ENTRIES < h.entries {
-        return true;
-    }
-    if rows::is_bad(rows, h.entries) {
-        return true;
-    }
-    if !apart::touched_formed(touched, h.touched) {
-        return true;
-    }
-    let good = apart::resident_formed(resident, h.resident, size);
-    !good
+    is_odd(h)
+        || h.lens.log < numbers::HEADER
+        || h.lens.clog < numbers::HEADER
+        || ENTRIES < h.entries
+        || rows::is_bad(rows, h.entries)
+        || !apart::touched_formed(touched, h.touched)
+        || !apart::resident_formed(resident, h.resident, size)
 }
 
-// What every call tests first: 1, then 14.
-pub fn front_no(
+// What every call tests first: the buffers, then the store.
+pub fn check_front(
     h: Head,
     rows: &[[u64; 3]; 256],
     resident: &[u32; 64],
@@ -100,15 +68,14 @@ pub fn front_no(
     db: &[u8],
     clog: &[u8],
     frames: &[u8],
-) -> u8
-    ensures { result ≡ unless_odd 4096 (lent h rows.now resident.now touched.now) log.now db.now clog.now frames.now (λ n. n) (front_no 4096 (world_of (store_of (lent h rows.now resident.now touched.now)) log.now db.now clog.now frames.now)) }
+) -> Result<(), Refusal>
+    ensures { number_in result ≡ unless_odd 4096 (lent h rows.now resident.now touched.now) log.now db.now clog.now frames.now (λ n. n) (front_no 4096 (world_of (store_of (lent h rows.now resident.now touched.now)) log.now db.now clog.now frames.now)) }
 {
-    let lens = h.lens;
-    if form::buffers_bad(lens, log, db, clog, frames) {
-        return numbers::UNFIT;
+    if form::buffers_bad(h.lens, log, db, clog, frames) {
+        return Err(Refusal::Unfit);
     }
     if is_bad(h, rows, resident, touched, frames.len()) {
-        return numbers::OUT_OF_FORM;
+        return Err(Refusal::OutOfForm);
     }
-    numbers::ACCEPTED
+    Ok(())
 }

@@ -5,74 +5,61 @@
 ghost use Rattle.std.specs.Prelude.{◌≡◌};
 ghost use Rattle.std.proofs.lemmas.List.Edits.{sets};
 ghost use Rattle.fields.specs.Files.{file_of};
+ghost use Rattle.fields.specs.Refusals.{number_in};
 ghost use Rattle.meta.specs.Page.{meta_page, has_meta, format_no, meta_in, stored_told};
 
-use fields::{CommitTime, TransactionId, numbers};
+use fields::{CommitTime, Refusal, TransactionId, numbers};
 
 // The version that is written.
 const VERSION: u32 = 2;
 
 // The counters that page 0 keeps: next id, next commit time, frozen mark.
-#[derive(Clone, Copy)]
+#[derive(Clone, Copy, Debug, PartialEq, Eq)]
 pub struct Counters {
     pub next: TransactionId,
     pub time: CommitTime,
     pub mark: TransactionId,
 }
 
-#[derive(Clone, Copy)]
-pub enum Stored {
-    Meta(Counters),
-    Nothing,
-    Outside,
-}
-
 // Whether page 0 is whole and has the magic. No byte past the length is looked at.
 fn has_meta(s: &[u8]) -> bool
     ensures { result ≡ has_meta 4096 s.now }
 {
-    if s.len() < numbers::PAGE_SIZE {
-        return false;
-    }
-    fields::begins(b"AERODBM1", s)
+    numbers::PAGE_SIZE <= s.len() && fields::begins(b"AERODBM1", s)
 }
 
-// The number of a database as found: 1, 12 or 0.
-pub fn format_no(db: &[u8], len: usize) -> u8
-    ensures { result ≡ format_no 4096 (file_of db.now len) }
+// Whether a database as found may be opened: refused as unfit, or for its version.
+pub fn check_format(db: &[u8], len: usize) -> Result<(), Refusal>
+    ensures { number_in result ≡ format_no 4096 (file_of db.now len) }
 {
     if fields::is_unfit(numbers::BUFFER_LIMIT, db.len(), len) {
-        return numbers::UNFIT;
+        return Err(Refusal::Unfit);
     }
     let s = &db[..len];
     if !has_meta(s) {
-        return numbers::ACCEPTED;
+        return Ok(());
     }
-    let version = fields::get_u32(s, 32);
-    if version == 0 {
-        return numbers::ACCEPTED;
+    match fields::get_u32(s, 32) {
+        0 | VERSION => Ok(()),
+        _ => Err(Refusal::BadVersion),
     }
-    if version == VERSION {
-        return numbers::ACCEPTED;
-    }
-    numbers::BAD_VERSION
 }
 
-// The counters of page 0, whatever its version.
-pub fn read_meta(db: &[u8], len: usize) -> Stored
+// The counters of page 0, whatever its version; none where there is no meta page.
+pub fn read_meta(db: &[u8], len: usize) -> Result<Option<Counters>, Refusal>
     ensures { stored_told result ≡ meta_in 4096 (file_of db.now len) }
 {
     if fields::is_unfit(numbers::BUFFER_LIMIT, db.len(), len) {
-        return Stored::Outside;
+        return Err(Refusal::Unfit);
     }
     let s = &db[..len];
     if !has_meta(s) {
-        return Stored::Nothing;
+        return Ok(None);
     }
     let next = TransactionId(fields::get_u64(s, 8));
     let time = CommitTime(fields::get_u64(s, 16));
     let mark = TransactionId(fields::get_u64(s, 24));
-    Stored::Meta(Counters { next, time, mark })
+    Ok(Some(Counters { next, time, mark }))
 }
 
 // Page 0 over the front of b, field by field.

@@ -17,8 +17,7 @@ use Rattle.wal.specs.Records.{log_magic, Record, image, begin, commit, abort, ch
 use Rattle.table.specs.declared.Status.{Status}
 use Rattle.table.specs.declared.Status.TheVariants.{Committed, Aborted}
 use Rattle.table.specs.declared.Entry.{Entry}
-use Rattle.table.specs.declared.Known.{Known}
-use Rattle.table.specs.declared.Known.TheVariants.{Is, Absent}
+use Rattle.std.specs.Prelude.{Option, Some, None}
 use Rattle.table.specs.Entries.{id_of, ascending, status_of, largest_id}
 use Rattle.clog.specs.Slots.{clog_magic, code_of, slot_of, valid_clog, open_clog, record_all, loaded_status, settled}
 use Rattle.clog.proofs.SlotLaws.{slot-within, slot-magic, settled-room, settled-len, settled-header}
@@ -36,7 +35,7 @@ use Rattle.opening.proofs.Tables.{last_word, other_word, log-ascending, log-word
 
 -- ---- every id that the log's table has fits the clog's buffer
 
-noted-fits : (k size : ℕ) (e : Entry) (s : Status) → past_clog size e ≡ false → status_of k (e ∷ []) ≡ Is s → 8 + k / 4 < size
+noted-fits : (k size : ℕ) (e : Entry) (s : Status) → past_clog size e ≡ false → status_of k (e ∷ []) ≡ Some s → 8 + k / 4 < size
 noted-fits k size e s b h = go (equality (id_of e) k)
   where
     go : Equal (id_of e) k → 8 + k / 4 < size
@@ -45,41 +44,41 @@ noted-fits k size e s b h = go (equality (id_of e) k)
 
 -- of a record and what follows it: the record's own id fits, and so do the others
 first_fits : (k size : ℕ) (r : Record) (l : List Entry) → any_of (map (past_clog size) (noted r ++ l)) ≡ false →
-    ((s : Status) → status_of k (noted r) ≡ Is s → 8 + k / 4 < size) × (any_of (map (past_clog size) l) ≡ false)
+    ((s : Status) → status_of k (noted r) ≡ Some s → 8 + k / 4 < size) × (any_of (map (past_clog size) l) ≡ false)
 unfolding any_of
 first_fits k size r l b = go r b
   where
     one : (e : Entry) → (past_clog size e || any_of (map (past_clog size) l)) ≡ false →
-        ((s : Status) → status_of k (e ∷ []) ≡ Is s → 8 + k / 4 < size) × (any_of (map (past_clog size) l) ≡ false)
+        ((s : Status) → status_of k (e ∷ []) ≡ Some s → 8 + k / 4 < size) × (any_of (map (past_clog size) l) ≡ false)
     one e b = let d = neither (past_clog size e) _ b in ((λ s h. noted-fits k size e s d.0 h), d.1)
 
     none : any_of (map (past_clog size) l) ≡ false →
-        ((s : Status) → status_of k [] ≡ Is s → 8 + k / 4 < size) × (any_of (map (past_clog size) l) ≡ false)
+        ((s : Status) → status_of k [] ≡ Some s → 8 + k / 4 < size) × (any_of (map (past_clog size) l) ≡ false)
     none b = ((λ s h. absurd (absent-not _ s (no-status k) h)), b)
 
     go : (r : Record) → any_of (map (past_clog size) (noted r ++ l)) ≡ false →
-        ((s : Status) → status_of k (noted r) ≡ Is s → 8 + k / 4 < size) × (any_of (map (past_clog size) l) ≡ false)
+        ((s : Status) → status_of k (noted r) ≡ Some s → 8 + k / 4 < size) × (any_of (map (past_clog size) l) ≡ false)
     go (image page bytes) b = none b
     go (begin id) b = one _ b
     go (commit id time) b = one _ b
     go (abort id) b = one _ b
     go checkpoint b = none b
 
-pub word_fits : (k size : ℕ) (rs : List Record) (s : Status) → any_of (map (past_clog size) (statuses rs)) ≡ false → last_word k rs ≡ Is s → 8 + k / 4 < size
+pub word_fits : (k size : ℕ) (rs : List Record) (s : Status) → any_of (map (past_clog size) (statuses rs)) ≡ false → last_word k rs ≡ Some s → 8 + k / 4 < size
 unfolding statuses last_word
 word_fits k size [] s b h = absurd (absent-not _ s refl h)
 word_fits k size (r ∷ rs) s b h =
     let d = first_fits k size r (statuses rs) b in
     go (last_word k rs) refl h d.0 (λ t. word_fits k size rs t d.1)
   where
-    go : (w : Known) → last_word k rs ≡ w → or_known w (status_of k (noted r)) ≡ Is s → ((t : Status) → status_of k (noted r) ≡ Is t → 8 + k / 4 < size) →
-        ((t : Status) → last_word k rs ≡ Is t → 8 + k / 4 < size) → 8 + k / 4 < size
-    go (Is t) q h f g = g t q
-    go Absent q h f g = f s h
+    go : (w : Option Status) → last_word k rs ≡ w → or_known w (status_of k (noted r)) ≡ Some s → ((t : Status) → status_of k (noted r) ≡ Some t → 8 + k / 4 < size) →
+        ((t : Status) → last_word k rs ≡ Some t → 8 + k / 4 < size) → 8 + k / 4 < size
+    go (Some t) q h f g = g t q
+    go None q h f g = f s h
 
-settled_is : (w : Known) (s : Status) → settled_known w ≡ Is s → (t : Status) × (w ≡ Is t)
-settled_is (Is t) s h = (t, refl)
-settled_is Absent s h = absurd (absent-not _ s refl h)
+settled_is : (w : Option Status) (s : Status) → settled_known w ≡ Some s → (t : Status) × (w ≡ Some t)
+settled_is (Some t) s h = (t, refl)
+settled_is None s h = absurd (absent-not _ s refl h)
 
 -- ---- what an accepted opening has passed, the log's ending aside
 
@@ -157,26 +156,26 @@ no-means P f frames ok = (by-means P (end_no P f.log) f frames ok).0
 
 module _ (P : ℕ) (f : Files) (frames : List ℕ) (p : Passed P f frames) where
   -- an id in a valid clog lies within it
-  clog-fits : (t : ℕ) (s : Status) → status_of t (clog_table f.clog) ≡ Is s → 8 + t / 4 < room f.clog
+  clog-fits : (t : ℕ) (s : Status) → status_of t (clog_table f.clog) ≡ Some s → 8 + t / 4 < room f.clog
   clog-fits t s h = go (valid_clog f.clog) refl
     where
       go : (x : Bool) → valid_clog f.clog ≡ x → 8 + t / 4 < room f.clog
       go false v = absurd (absent-not _ s (clog-word f.clog t ∙ rw v) h)
       go true v =
-          let k : known_as (slot_of 8 (content f.clog) t) ≡ Is s = sym (clog-word f.clog t ∙ rw v) ∙ h in
+          let k : known_as (slot_of 8 (content f.clog) t) ≡ Some s = sym (clog-word f.clog t ∙ rw v) ∙ h in
           omega (arith, slot-within 8 t f.clog (λ z. absent-not _ s (rw z) k), p.clog-len)
 
-  pub full-fits : (t : ℕ) (s : Status) → status_of t (full_table P f) ≡ Is s → 8 + t / 4 < room f.clog
+  pub full-fits : (t : ℕ) (s : Status) → status_of t (full_table P f) ≡ Some s → 8 + t / 4 < room f.clog
   full-fits t s h = go (last_word t (records P f.log)) refl
     where
-      go : (w : Known) → last_word t (records P f.log) ≡ w → 8 + t / 4 < room f.clog
-      go (Is u) e = word_fits t (room f.clog) (records P f.log) u p.ids e
-      go Absent e = clog-fits t s (sym (rw e at (full-by-word P f t)) ∙ h)
+      go : (w : Option Status) → last_word t (records P f.log) ≡ w → 8 + t / 4 < room f.clog
+      go (Some u) e = word_fits t (room f.clog) (records P f.log) u p.ids e
+      go None e = clog-fits t s (sym (rw e at (full-by-word P f t)) ∙ h)
 
-  pub next-above : (t : ℕ) (s : Status) → status_of t (full_table P f) ≡ Is s → t < (with_meta P f frames).mem.next.0
+  pub next-above : (t : ℕ) (s : Status) → status_of t (full_table P f) ≡ Some s → t < (with_meta P f frames).mem.next.0
   unfolding with_meta
   next-above t s h =
-      let fit : (k : ℕ) (u : Status) → status_of k (full_table P f) ≡ Is u → k < 4194304 = λ k u e. omega (arith, full-fits k u e, p.clog-size) in
+      let fit : (k : ℕ) (u : Status) → status_of k (full_table P f) ≡ Some u → k < 4194304 = λ k u e. omega (arith, full-fits k u e, p.clog-size) in
       let a : t ≤ largest_id (full_table P f) = under-largest t (full_table P f) s h in
       let b : largest_id (full_table P f) < 4194304 = largest-under 4194304 (full_table P f) (lit< tt) (full-ascending P f) fit in
       omega arith
@@ -205,9 +204,9 @@ open-word clog l k = go (valid_clog clog) refl
     go false v = clog-word clog k ∙ rw (v, open-reset clog v, header-content clog_magic clog (rw magic-long l), slot-magic k)
 
 -- what a status becomes in the clog and back: Active is Aborted, times are 0
-abbrev pub kept : Known → Known
-kept (Is s) = known_as (code_of s)
-kept Absent = Absent
+abbrev pub kept : Option Status → Option Status
+kept (Some s) = known_as (code_of s)
+kept None = None
 
 -- what was loaded once is kept
 kept-known : (c : ℕ) → kept (known_as c) ≡ known_as c
@@ -215,7 +214,7 @@ unfolding loaded_status
 kept-known c = go (eqb c 0) (eqb c 2)
   where
     go : (x y : Bool) →
-        kept (cond x Absent (Is (cond y (Committed (record { 0 = 0 })) Aborted))) ≡ cond x Absent (Is (cond y (Committed (record { 0 = 0 })) Aborted))
+        kept (cond x None (Some (cond y (Committed (record { 0 = 0 })) Aborted))) ≡ cond x None (Some (cond y (Committed (record { 0 = 0 })) Aborted))
     go true y = refl
     go false true = refl
     go false false = refl
@@ -318,7 +317,7 @@ module _ (P : ℕ) (f : Files) (frames : List ℕ) (p : Passed P f frames) where
       ∙ rw (left-valid, slots-plain 8 _ _ _ left k, full-word P f k, open-word f.clog p.clog-room k)
       (go (status_of k (log_table P f.log))))
     where
-      go : (w : Known) → known_as (code_or_else w (slot_of 8 (content (settled 8 (open_clog f.clog))) k))
+      go : (w : Option Status) → known_as (code_or_else w (slot_of 8 (content (settled 8 (open_clog f.clog))) k))
           ≡ kept (or_known w (known_as (slot_of 8 (content (open_clog f.clog)) k)))
-      go (Is s) = refl
-      go Absent = settled-known k ∙ sym (kept-known (slot_of 8 (content (open_clog f.clog)) k))
+      go (Some s) = refl
+      go None = settled-known k ∙ sym (kept-known (slot_of 8 (content (open_clog f.clog)) k))

@@ -8,10 +8,14 @@ use native.Mathlib.Omega.{arith}
 use lib.Dec.{ltb}
 use lib.ListN.{length, drop, length-append}
 use borrow.Author.Tests.{ne_eqb}
+use Rattle.std.specs.Prelude.{Result, Ok, Err}
 use Rattle.fields.proofs.Tests.{or-false}
 use Rattle.fields.specs.Bytes.{starts}
 use Rattle.fields.specs.Files.{File, content, room, header}
+use Rattle.fields.specs.declared.refusal.Refusal.{Refusal}
+use Rattle.fields.specs.Refusals.{number_of}
 use Rattle.fields.specs.Answers.{Told}
+use Rattle.fields.proofs.AnswerLaws.{number-positive, refusal, refusal-number}
 use Rattle.fields.proofs.Stored.{starts-means}
 use Rattle.sorted.specs.Sorted.{insert_all_by}
 use Rattle.wal.specs.Records.{log_magic, records_in, log_of, clean}
@@ -24,14 +28,13 @@ use Rattle.world.specs.World.{Files, files_of}
 use Rattle.world.specs.Steps.{with_db}
 use Rattle.world.specs.Run.{decided}
 use Rattle.world.specs.Refusals.{any_of, or_else, bad_buffers}
-use Rattle.form.specs.declared.Changed.{Changed}
-use Rattle.form.specs.Store.{laid_store, Given, no_store}
+use Rattle.form.specs.declared.Store.{Store}
+use Rattle.form.specs.Store.{Changed, laid_store, Given, given, no_store}
 use Rattle.form.proofs.Called.{given-same}
 use Rattle.form.proofs.Worlds.{world-laid, world_in}
-use Rattle.opening.specs.declared.Verdict.{Verdict}
-use Rattle.opening.specs.declared.Verdict.TheVariants.{Accepted, Refused, Torn, Unknown}
-use Rattle.opening.specs.declared.Opened.{Opened}
-use Rattle.opening.specs.Opening.{records, end_no, replay, replayed, statuses, log_table, clog_table, full_table, open_room_no, open_no, log_time, at_rest, with_meta, without_meta, opened_world, has_laid, left_by, unopened, opening, verdict_told, opened_as, opened}
+use Rattle.opening.specs.declared.Unopened.{Unopened}
+use Rattle.opening.specs.declared.Unopened.TheVariants.{Refused, Torn, Unknown}
+use Rattle.opening.specs.Opening.{records, end_no, replay, replayed, statuses, log_table, clog_table, full_table, open_room_no, open_no, log_time, at_rest, with_meta, without_meta, opened_world, has_laid, left_by, unopened, opening, verdict_told, opened_in, opened_as, opened}
 
 -- ---- what an opening leaves, by its number
 
@@ -82,30 +85,38 @@ module _ (P : ℕ) (f : Files) (frames : List ℕ) where
 -- ---- the same for the code: one law for each way out
 
 module _ (P : ℕ) (lens : Lens) (log db clog frames : List ℕ) where
-  pub opened-refused : (n : ℕ) → open_no P (files_of lens log db clog) frames ≡ suc n → has_laid (suc n) ≡ false →
-      opened_as (record { verdict = Refused (suc n); store = no_store }) log db clog frames ≡ opened P lens log db clog frames
+  pub opened-refused : (r : Refusal) → open_no P (files_of lens log db clog) frames ≡ number_of r → has_laid (number_of r) ≡ false →
+      opened_as (opened_in (Err (Refused r))) log db clog frames ≡ opened P lens log db clog frames
   unfolding opened
-  opened-refused n e h = rw (refused-alone P (files_of lens log db clog) frames n e h, h, ne_eqb (suc n) 0 (λ z. omega arith))
+  opened-refused r e h = go (number_of r) (number-positive r) e h
+    where
+      go : (n : ℕ) → 0 < n → open_no P (files_of lens log db clog) frames ≡ n → has_laid n ≡ false →
+          given [] (record { number = n; store = no_store }) log db clog frames ≡ opened P lens log db clog frames
+      go zero p e h = absurd (omega arith)
+      go (suc n) p e h = rw (refused-alone P (files_of lens log db clog) frames n e h, h, ne_eqb (suc n) 0 (λ z. omega arith))
 
   pub opened-torn : open_no P (files_of lens log db clog) frames ≡ 2 →
-      (let d = replayed P (files_of lens log db clog) in opened_as (record { verdict = Torn d.len; store = no_store }) log d.bytes clog frames)
+      (let d = replayed P (files_of lens log db clog) in opened_as (opened_in (Err (Torn d.len))) log d.bytes clog frames)
       ≡ opened P lens log db clog frames
   unfolding opened
   opened-torn e = rw (refused-laid P (files_of lens log db clog) frames 1 e refl)
 
   pub opened-unknown : open_no P (files_of lens log db clog) frames ≡ 3 →
-      (let d = replayed P (files_of lens log db clog) in opened_as (record { verdict = Unknown d.len; store = no_store }) log d.bytes clog frames)
+      (let d = replayed P (files_of lens log db clog) in opened_as (opened_in (Err (Unknown d.len))) log d.bytes clog frames)
       ≡ opened P lens log db clog frames
   unfolding opened
   opened-unknown e = rw (refused-laid P (files_of lens log db clog) frames 2 e refl)
 
   pub opened-accepted : open_no P (files_of lens log db clog) frames ≡ 0 →
       (let w = opened_world P (files_of lens log db clog) frames in
-      opened_as (record { verdict = Accepted (replayed P (files_of lens log db clog)).len; store = laid_store no_store w }) w.files.log.bytes
-      w.files.db.bytes w.files.clog.bytes w.frames)
+      opened_as (opened_in (Ok (laid_store no_store w))) w.files.log.bytes w.files.db.bytes w.files.clog.bytes w.frames)
       ≡ opened P lens log db clog frames
-  unfolding opened
-  opened-accepted e = rw (accepted P (files_of lens log db clog) frames e)
+  unfolding opened laid_store
+  opened-accepted e =
+      let f = files_of lens log db clog in
+      let w = opened_world P f frames in
+      ap (λ (d : File). given (d.len ∷ []) (record { number = 0; store = laid_store no_store w }) w.files.log.bytes w.files.db.bytes w.files.clog.bytes w.frames) (world-db P f frames)
+      ∙ rw (accepted P f frames e)
 
   -- read as a world, the store that comes out is the opened one
   pub opened-world : open_no P (files_of lens log db clog) frames ≡ 0 →
@@ -117,39 +128,43 @@ module _ (P : ℕ) (lens : Lens) (log db clog frames : List ℕ) where
 -- ---- two results with one outcome are the same
 
 -- the verdict that tells a number and values
-untold : Told → Verdict
+untold : Told → Result ℕ Unopened
 untold t = go t.number t.values
   where
-    go : ℕ → List ℕ → Verdict
-    go n [] = Refused n
-    go zero (v ∷ vs) = Accepted v
-    go (suc zero) (v ∷ vs) = Refused 1
-    go (suc (suc zero)) (v ∷ vs) = Torn v
-    go (suc (suc (suc n))) (v ∷ vs) = Unknown v
+    go : ℕ → List ℕ → Result ℕ Unopened
+    go n [] = Err (Refused (refusal n))
+    go zero (v ∷ vs) = Ok v
+    go (suc zero) (v ∷ vs) = Ok v
+    go (suc (suc zero)) (v ∷ vs) = Err (Torn v)
+    go (suc (suc (suc n))) (v ∷ vs) = Err (Unknown v)
 
-untold-told : (v : Verdict) → untold (verdict_told v) ≡ v
+untold-told : (v : Result ℕ Unopened) → untold (verdict_told v) ≡ v
 unfolding untold
-untold-told (Accepted db) = refl
-untold-told (Refused n) = refl
-untold-told (Torn db) = refl
-untold-told (Unknown db) = refl
+untold-told (Ok db) = refl
+untold-told (Err (Refused r)) = rw (refusal-number r)
+untold-told (Err (Torn db)) = refl
+untold-told (Err (Unknown db)) = refl
 
-verdict-same : (a b : Verdict) → (verdict_told a).number ≡ (verdict_told b).number → (verdict_told a).values ≡ (verdict_told b).values → a ≡ b
+pub verdict-same : (a b : Result ℕ Unopened) → (verdict_told a).number ≡ (verdict_told b).number → (verdict_told a).values ≡ (verdict_told b).values → a ≡ b
 verdict-same a b e h =
-    let n : verdict_told a ≡ record { number = (verdict_told b).number; values = (verdict_told a).values } =
-    ap (λ (k : ℕ). record { number = k; values = (verdict_told a).values }) e in
-    let v : record { number = (verdict_told b).number; values = (verdict_told a).values } ≡ verdict_told b =
-    ap (λ (l : List ℕ). record { number = (verdict_told b).number; values = l }) h in
-    sym (untold-told a) ∙ ap untold (n ∙ v) ∙ untold-told b
+    let n = ap (λ (k : ℕ). untold (record { number = k; values = (verdict_told a).values })) e in
+    let v = ap (λ (l : List ℕ). untold (record { number = (verdict_told b).number; values = l })) h in
+    sym (untold-told a) ∙ n ∙ v ∙ untold-told b
 
-pub opened-same : (r s : Opened) (log log' db db' clog clog' frames frames' : List ℕ) (o : Given (List ℕ)) → opened_as r log db clog frames ≡ o →
-    opened_as s log' db' clog' frames' ≡ o → (r ≡ s) × (log ≡ log') × (db ≡ db') × (clog ≡ clog') × (frames ≡ frames')
+result-same : (r s : Result Store Unopened) → (opened_in r).verdict ≡ (opened_in s).verdict → (opened_in r).store ≡ (opened_in s).store → r ≡ s
+result-same (Ok a) (Ok b) v t = ap (λ x. Ok x) t
+result-same (Ok a) (Err u) v t = cc
+result-same (Err u) (Ok b) v t = cc
+result-same (Err u) (Err w) v t = let e : u ≡ w = cc in ap (λ x. Err x) e
+
+pub opened-same : (r s : Result Store Unopened) (log log' db db' clog clog' frames frames' : List ℕ) (o : Given (List ℕ)) →
+    opened_as (opened_in r) log db clog frames ≡ o → opened_as (opened_in s) log' db' clog' frames' ≡ o →
+    (r ≡ s) × (log ≡ log') × (db ≡ db') × (clog ≡ clog') × (frames ≡ frames')
 opened-same r s log log' db db' clog clog' frames frames' o e h =
     let g = given-same _ _ log log' db db' clog clog' frames frames' _ _ o e h in
-    let n = ap (λ (c : Changed). c.number) g.1.results in
-    let v : r.verdict ≡ s.verdict = verdict-same r.verdict s.verdict n g.0 in
+    let v = verdict-same (opened_in r).verdict (opened_in s).verdict (ap (λ (c : Changed). c.number) g.1.results) g.0 in
     let t = ap (λ (c : Changed). c.store) g.1.results in
-    (rw (v, t), g.1.logs, g.1.dbs, g.1.clogs, g.1.buffers)
+    (result-same r s v t, g.1.logs, g.1.dbs, g.1.clogs, g.1.buffers)
 
 -- ---- a log that has no records: it has 0 bytes, or 1 to 7, or another magic, or nothing after the magic
 

@@ -14,7 +14,7 @@ use Rattle.fields.proofs.Tests.{Order, less, most, order, neither}
 use Rattle.fields.proofs.Lists.{or-true}
 use Rattle.wal.specs.Records.{Record, image, begin, commit, abort, checkpoint}
 use Rattle.wal.proofs.Sizes.{Sized, AllSized}
-use Rattle.table.specs.declared.Known.TheVariants.{Absent}
+use Rattle.std.specs.Prelude.{None}
 use Rattle.table.proofs.Facts.{no-status}
 use Rattle.frames.specs.Pages.{is_in}
 use Rattle.world.specs.World.{Files, World}
@@ -126,7 +126,7 @@ module _ (P : ℕ) (w : World) where
   images-has p (q ∷ ps) = ap (λ (x : Bool). eqb q p || x) (images-has p ps)
 
   -- they say nothing of an id
-  pub images-words : (t : ℕ) (ps : List ℕ) → last_word t (images_of P w ps) ≡ Absent
+  pub images-words : (t : ℕ) (ps : List ℕ) → last_word t (images_of P w ps) ≡ None
   unfolding images_of last_word
   images-words t [] = refl
   images-words t (p ∷ ps) = rw (images-words t ps) (no-status t)

@@ -9,10 +9,10 @@ use Rattle.sorted.specs.Sorted.{look_by, insert_all_by, ascending_by}
 use Rattle.fields.specs.Files.{File, content}
 use Rattle.fields.proofs.Tests.{Equal, equal, other, equality}
 use Rattle.wal.specs.Records.{Record, image, begin, commit, abort, checkpoint}
+use Rattle.table.specs.declared.Status.{Status}
 use Rattle.table.specs.declared.Status.TheVariants.{Active}
 use Rattle.table.specs.declared.Entry.{Entry}
-use Rattle.table.specs.declared.Known.{Known}
-use Rattle.table.specs.declared.Known.TheVariants.{Is, Absent}
+use Rattle.std.specs.Prelude.{Option, Some, None}
 use Rattle.table.specs.Entries.{id_of, insert_entry, insert_all, ascending, status_of}
 use Rattle.table.proofs.Facts.{status-set, status-kept, over-ascending, over-grows, over-status, settle-ascending, settle-status, settle-unfound, or_known, settled_known, or-known, or-absent, no-status, own-status, past-status}
 use Rattle.clog.specs.Slots.{slot_of, valid_clog, entries_in}
@@ -26,12 +26,12 @@ use Rattle.sorted.proofs.Covers.{over-covers}
 -- ---- the log's table
 
 -- the last word of records on an id
-unfoldable pub last_word : ℕ → List Record → Known
-last_word k [] = Absent
+unfoldable pub last_word : ℕ → List Record → Option Status
+last_word k [] = None
 last_word k (r ∷ rs) = or_known (last_word k rs) (status_of k (noted r))
 
 -- what one entry says of another id
-pub other_word : (k : ℕ) (e : Entry) → (id_of e ≡ k → ⊥) → status_of k (e ∷ []) ≡ Absent
+pub other_word : (k : ℕ) (e : Entry) → (id_of e ≡ k → ⊥) → status_of k (e ∷ []) ≡ None
 other_word k e n = past-status k e [] n ∙ no-status k
 
 -- records one after another
@@ -54,7 +54,7 @@ pub statuses-more : (rs : List Record) (r : Record) → statuses (rs ++ (r ∷ [
 unfolding statuses
 statuses-more rs r = statuses-append rs (r ∷ []) ∙ rw append-nil
 
-pub word_none : (k : ℕ) → last_word k [] ≡ Absent
+pub word_none : (k : ℕ) → last_word k [] ≡ None
 unfolding last_word
 word_none k = refl
 
@@ -105,7 +105,7 @@ module _ (P : ℕ) (log : File) where
       settle-status k (insert_all (statuses (records P log)) []) ∙ rw (e, no-status k, or-absent (last_word k (records P log)))
 
   -- no entry of it is Active
-  pub log-settled : (k : ℕ) → status_of k (log_table P log) ≡ Is Active → ⊥
+  pub log-settled : (k : ℕ) → status_of k (log_table P log) ≡ Some Active → ⊥
   unfolding log_table
   log-settled k = settle-unfound k (insert_all (statuses (records P log)) [])
 
@@ -128,11 +128,11 @@ module _ (clog : File) where
       go true = load-ascending 8 0 (content clog)
       go false = refl
 
-  pub clog-word : (k : ℕ) → status_of k (clog_table clog) ≡ cond (valid_clog clog) (known_as (slot_of 8 (content clog) k)) Absent
+  pub clog-word : (k : ℕ) → status_of k (clog_table clog) ≡ cond (valid_clog clog) (known_as (slot_of 8 (content clog) k)) None
   unfolding clog_table status_of look_by
   clog-word k = go (valid_clog clog)
     where
-      go : (x : Bool) → status_of k (cond x (entries_in 8 0 (content clog)) []) ≡ cond x (known_as (slot_of 8 (content clog) k)) Absent
+      go : (x : Bool) → status_of k (cond x (entries_in 8 0 (content clog)) []) ≡ cond x (known_as (slot_of 8 (content clog) k)) None
       go true = load-status-plain 8 (content clog) k
       go false = refl
 
@@ -171,7 +171,7 @@ module _ (P : ℕ) (f : Files) where
     -- the same id by id, from the bytes
     pub meta-word : has_meta P (content (replayed P f)) ≡ true → (k : ℕ) →
         status_of k (opening P f frames).world.mem.table
-        ≡ or_known (settled_known (last_word k (records P f.log))) (cond (valid_clog f.clog) (known_as (slot_of 8 (content f.clog) k)) Absent)
+        ≡ or_known (settled_known (last_word k (records P f.log))) (cond (valid_clog f.clog) (known_as (slot_of 8 (content f.clog) k)) None)
     unfolding full_table
     meta-word h k = rw (meta-table h) (full-word k ∙ rw (log-word P f.log k, clog-word f.clog k))
 

@@ -22,9 +22,10 @@
 --
 -- A refusal changes no byte, with one exception: one with 2 or 3 has laid the images before the bad record, and tells the database's length after them.
 -- Assumes nothing.
-use Rattle.std.specs.Prelude.{ℕ, ◌+◌, ◌*◌, ◌/◌, max, List, [], ◌∷◌, ◌++◌, map, Bool, false, cond, ◌||◌, length, ltb, leb, eqb}
+use Rattle.std.specs.Prelude.{ℕ, ◌+◌, ◌*◌, ◌/◌, max, List, [], ◌∷◌, ◌++◌, map, Bool, false, cond, ◌||◌, length, ltb, leb, eqb, Result, Ok, Err}
 use Rattle.fields.specs.Files.{File, content, room, lay, header}
 use Rattle.fields.specs.Answers.{Told}
+use Rattle.fields.specs.Refusals.{number_of}
 use Rattle.wal.specs.Records.{log_magic, Record, image, begin, commit, abort, checkpoint, Ending, ending_no, records_in, log_of}
 use Rattle.table.specs.declared.Status.TheVariants.{Active, Committed, Aborted}
 use Rattle.table.specs.declared.Entry.{Entry}
@@ -38,10 +39,10 @@ use Rattle.world.specs.World.{Files, files_of, Mem, World}
 use Rattle.world.specs.Steps.{with_db}
 use Rattle.world.specs.Refusals.{any_of, or_else, bad_buffers}
 use Rattle.world.specs.Run.{decided}
+use Rattle.form.specs.declared.Store.{Store}
 use Rattle.form.specs.Store.{no_store, laid_store, ending, Given, given}
-use Rattle.opening.specs.declared.Verdict.{Verdict}
-use Rattle.opening.specs.declared.Verdict.TheVariants.{Accepted, Refused, Torn, Unknown}
-use Rattle.opening.specs.declared.Opened.{Opened}
+use Rattle.opening.specs.declared.Unopened.{Unopened}
+use Rattle.opening.specs.declared.Unopened.TheVariants.{Refused, Torn, Unknown}
 
 -- ---- the log: the records before the first bad one, how it ends, and the number of that: 0 its last byte, 2 or 3 a bad record
 
@@ -200,12 +201,22 @@ opening P f frames = opened_by P (open_no P f frames) f frames
 
 -- ---- the same for the code's store
 
--- the number and the values of a verdict
-abbrev pub verdict_told : Verdict → Told
-verdict_told (Accepted db) = record { number = 0; values = db ∷ [] }
-verdict_told (Refused number) = record { number = number; values = [] }
-verdict_told (Torn db) = record { number = 2; values = db ∷ [] }
-verdict_told (Unknown db) = record { number = 3; values = db ∷ [] }
+-- the number and the values of a verdict: the database's length, or why there is no store
+abbrev pub verdict_told : Result ℕ Unopened → Told
+verdict_told (Ok db) = record { number = 0; values = db ∷ [] }
+verdict_told (Err (Refused r)) = record { number = number_of r; values = [] }
+verdict_told (Err (Torn db)) = record { number = 2; values = db ∷ [] }
+verdict_told (Err (Unknown db)) = record { number = 3; values = db ∷ [] }
+
+-- the verdict, and the store; only an accepted opening has one
+pub record Opened : Type 0 where
+  pub verdict : Result ℕ Unopened
+  pub store : Store
+
+-- what a result tells: the length of an opened store's database; the same fixed value stands in the place of a store that there is not
+abbrev pub opened_in : Result Store Unopened → Opened
+opened_in (Ok s) = record { verdict = Ok s.lens.db; store = s }
+opened_in (Err u) = record { verdict = Err u; store = no_store }
 
 -- what comes out: the values that are told; the number, the store and every byte of the four buffers
 abbrev pub opened_as : Opened → List ℕ → List ℕ → List ℕ → List ℕ → Given (List ℕ)

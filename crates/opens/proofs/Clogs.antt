@@ -10,18 +10,20 @@ use borrow.Author.Tests.{lt-leb, le-ltb, leb-false}
 use lib.ListN.{length, take, get_or, length-take}
 use lib.Seq.{take-suc, get_or-take}
 use Rattle.fields.proofs.Tests.{neither}
-use Rattle.fields.specs.declared.Answer.{Answer}
-use Rattle.fields.specs.declared.Answer.TheVariants.{Accepted, Refused}
+use Rattle.std.specs.Prelude.{Result, Ok, Err}
+use Rattle.fields.specs.declared.refusal.Refusal.{Refusal}
+use Rattle.fields.specs.Refusals.{number_of}
+use Rattle.fields.proofs.AnswerLaws.{number-positive}
 use Rattle.fields.specs.Files.{File, file_of, content, room, header, unfit}
 use Rattle.fields.specs.Answers.{length_of, Outcome, told, outcome, decided}
 use Rattle.fields.proofs.FileLaws.{fit-means, header-content}
 use Rattle.table.specs.declared.Entry.{Entry}
 use Rattle.table.specs.Entries.{blank, id_of}
-use Rattle.clog.specs.declared.Loaded.{Loaded}
+use Rattle.table.specs.declared.Table.{Table}
 use Rattle.clog.specs.Slots.{clog_magic, code_of, valid_clog, open_clog, set_slot, record_all, codes, entries_from, entries_in, in_use, settled}
 use Rattle.clog.proofs.Refusals.{fit-ok}
 use Rattle.clog.specs.Calls as calls
-use Rattle.clog.specs.Calls.{reset_no, record_no, load_no, wiped, recorded, LoadOutcome, load_outcome, load_decided, loaded}
+use Rattle.clog.specs.Calls.{Loaded, loaded_of, reset_no, record_no, load_no, wiped, recorded, LoadOutcome, load_outcome, load_decided, loaded}
 use Rattle.clog.proofs.SlotLaws.{record-len, settled-len}
 use Rattle.clog.proofs.TableLaws.{AllFit, record-append, open_kept, open-reset, open-room}
 use Rattle.world.specs.Refusals.{any_of}
@@ -31,11 +33,11 @@ use Rattle.opening.proofs.Formed.{open-fits}
 
 -- ---- an accepted answer
 
-length-told : (r : Answer) → length_of r ≡ get_or (told r).values 0 0
-length-told (Accepted len) = refl
-length-told (Refused number) = refl
+length-told : (r : Result ℕ Refusal) → length_of r ≡ get_or (told r).values 0 0
+length-told (Ok len) = refl
+length-told (Err r) = refl
 
-pub answered : (r : Answer) (bytes : List ℕ) (n : ℕ) (old new : File) → n ≡ 0 → outcome r bytes ≡ decided n old new → file_of bytes (length_of r) ≡ new
+pub answered : (r : Result ℕ Refusal) (bytes : List ℕ) (n : ℕ) (old new : File) → n ≡ 0 → outcome r bytes ≡ decided n old new → file_of bytes (length_of r) ≡ new
 unfolding decided
 answered r bytes n old new z e =
     let k : outcome r bytes ≡ record { told = record { number = 0; values = new.len ∷ [] }; bytes = new.bytes } = rw z at e in
@@ -78,12 +80,12 @@ module _ (es : List Entry) (count k n : ℕ) (clog : List ℕ) (low : 0 < k) (he
       let z : id_of (get_or es (k - 1) blank) - 0 ≡ id_of (get_or es (k - 1) blank) = omega arith in
       rw (fit-ok 8 (length clog) n small fits head, le-ltb (id_of (get_or es (k - 1) blank)) 0 (omega arith), z, fit-here)
 
-  pub record Put (r : Answer) (out : List ℕ) : Type 0 where
+  pub record Put (r : Result ℕ Refusal) (out : List ℕ) : Type 0 where
     pub same : record_all 8 0 (take (k - 1) es) (file_of out (length_of r)) ≡ record_all 8 0 (take k es) (file_of clog n)
     pub longer : n ≤ length_of r
     pub within : length_of r ≤ length clog
 
-  pub put : (r : Answer) (out : List ℕ) →
+  pub put : (r : Result ℕ Refusal) (out : List ℕ) →
       outcome r out ≡ recorded 8 0 (file_of clog n) (id_of (get_or es (k - 1) blank)) (code_of (get_or es (k - 1) blank).status) → Put r out
   unfolding recorded record_all
   put r out e =
@@ -119,11 +121,11 @@ module _ (clog : File) (fit : unfit 1048576 (room clog) clog.len ≡ false) (lar
       let z : 0 ≤ clog.len = omega arith in
       rw (fit-ok 0 (room clog) clog.len m.0 m.1 z, le-ltb (room clog) 8 large)
 
-  pub is-reset : (r : Answer) (out : List ℕ) → outcome r out ≡ wiped clog → file_of out (length_of r) ≡ header clog_magic clog
+  pub is-reset : (r : Result ℕ Refusal) (out : List ℕ) → outcome r out ≡ wiped clog → file_of out (length_of r) ≡ header clog_magic clog
   unfolding wiped
   is-reset r out e = answered r out _ _ _ reset-zero e
 
-  pub is_open : (r : Answer) (out : List ℕ) → outcome r out ≡ calls.opened clog → file_of out (length_of r) ≡ open_clog clog
+  pub is_open : (r : Result ℕ Refusal) (out : List ℕ) → outcome r out ≡ calls.opened clog → file_of out (length_of r) ≡ open_clog clog
   unfolding calls.opened
   is_open r out e = answered r out _ _ _ reset-zero e
 
@@ -146,12 +148,15 @@ module _ (clog : File) (fit : unfit 1048576 (room clog) clog.len ≡ false) (lar
       let s : room (open_clog clog) ≤ 1048576 = rw (open-room clog) m.0 in
       rw (fit-ok 8 (room (open_clog clog)) (open_clog clog).len s o.0 o.1, le-ltb 256 (in_use 8 (content (open_clog clog))) (open-use h))
 
-  pub is-loaded : length (clog_table clog) ≤ 256 → (r : Loaded) (out : List ℕ) → load_outcome r out ≡ loaded 256 8 0 (open_clog clog) →
-      file_of out (length_of r.answer) ≡ settled 8 (open_clog clog)
-  unfolding loaded load_decided
-  is-loaded h r out e =
-      answered r.answer out (load_no 256 8 (open_clog clog)) (open_clog clog) (settled 8 (open_clog clog)) (load-zero h)
+  pub is-loaded : length (clog_table clog) ≤ 256 → (len : ℕ) (r : Result Table Refusal) (out : List ℕ) →
+      load_outcome (loaded_of len r) out ≡ loaded 256 8 0 (open_clog clog) → file_of out len ≡ settled 8 (open_clog clog)
+  unfolding loaded load_decided decided
+  is-loaded h len (Ok t) out e =
+      answered (Ok len) out (load_no 256 8 (open_clog clog)) (open_clog clog) (settled 8 (open_clog clog)) (load-zero h)
       (ap (λ (o : LoadOutcome). record { told = o.told; bytes = o.bytes }) e)
+  is-loaded h len (Err r) out e =
+      let n : number_of r ≡ 0 = ap (λ (o : LoadOutcome). o.told.number) e ∙ rw (load-zero h) in
+      absurd (omega (arith, number-positive r))
 
   -- what is then recorded in
   pub record Loads (n : ℕ) : Type 0 where

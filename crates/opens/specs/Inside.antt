@@ -1,14 +1,12 @@
 -- What the private functions of opening give: the clog, the counters and the store after an accepted opening, by what page 0 was found to hold after replay.
 -- What the whole opening gives stands in the crate opening. P is the page size. Assumes nothing.
-use Rattle.std.specs.Prelude.{◌≡◌, ℕ, ◌/◌, ◌≤◌, max, List, map, false, length}
+use Rattle.std.specs.Prelude.{◌≡◌, ℕ, ◌/◌, ◌≤◌, max, List, map, false, length, Option, Some, None}
 use Rattle.fields.specs.Files.{File, room, header, unfit}
 use Rattle.table.specs.declared.Entry.{Entry}
 use Rattle.table.specs.declared.Table.{Table}
 use Rattle.table.specs.Entries.{list_of, largest_id, largest_time, next64}
 use Rattle.clog.specs.Slots.{clog_magic, open_clog, record_all, settled}
 use Rattle.meta.specs.declared.Counters.{Counters}
-use Rattle.meta.specs.declared.Stored.{Stored}
-use Rattle.meta.specs.declared.Stored.TheVariants.{Meta, Nothing, Outside}
 use Rattle.frames.specs.Pages.{empty_frames, empty_touched}
 use Rattle.world.specs.declared.Lens.{Lens}
 use Rattle.world.specs.declared.Slot.TheVariants.{Empty}
@@ -22,10 +20,9 @@ Loadable f logged =
     (unfit 1048576 (room f) f.len ≡ false) × (8 ≤ room f) × (length (clog_table f) ≤ 256) × (any_of (map (past_clog (room f)) logged) ≡ false)
 
 -- with a meta page the clog is opened and loaded, and the log's statuses are recorded in it; else it is reset
-abbrev pub clog_by : Stored → List Entry → File → File
-clog_by (Meta m) logged f = record_all 8 0 logged (settled 8 (open_clog f))
-clog_by Nothing logged f = header clog_magic f
-clog_by Outside logged f = header clog_magic f
+abbrev pub clog_by : Option Counters → List Entry → File → File
+clog_by (Some m) logged f = record_all 8 0 logged (settled 8 (open_clog f))
+clog_by None logged f = header clog_magic f
 
 -- the log's next commit time
 abbrev pub time_by : Table → ℕ
@@ -57,7 +54,6 @@ store_at_rest P lens c t =
       held = record { slot = Empty; touched = empty_touched 64 };
     }
 
-abbrev pub store_by : ℕ → Lens → Stored → Table → Table → Store
-store_by P lens (Meta m) logged full = store_at_rest P lens (meta_counters m logged full) full
-store_by P lens Nothing logged full = store_at_rest P lens (plain_counters logged) logged
-store_by P lens Outside logged full = store_at_rest P lens (plain_counters logged) logged
+abbrev pub store_by : ℕ → Lens → Option Counters → Table → Table → Store
+store_by P lens (Some m) logged full = store_at_rest P lens (meta_counters m logged full) full
+store_by P lens None logged full = store_at_rest P lens (plain_counters logged) logged

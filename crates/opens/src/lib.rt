@@ -1,20 +1,20 @@
-// Opening a store: scan, lay the images, clog, table and counters, truncate. What comes out is defined in the crate opening; specs/Opens.antt tells what the
+// Opening a store: scan, lay the images, clog, table and counters, truncate. What comes out is defined in the crate opening; specs/Inside.antt tells what the
 // private functions give. Every test that can refuse with 1, 12 or 4 to 7 stands before the first change.
 #![tactic(auto)]
 
-ghost use Rattle.std.specs.Prelude.{◌≡◌, map, false, ◌||◌, ◌≤◌, max, eqb, length};
+ghost use Rattle.std.specs.Prelude.{◌≡◌, map, false, ◌≤◌, max, length};
 ghost use Rattle.fields.specs.Files.{file_of, unfit};
 ghost use Rattle.table.specs.Entries.{list_of};
 ghost use Rattle.clog.specs.Slots.{open_clog, record_all, settled};
 ghost use Rattle.world.specs.Refusals.{any_of};
-ghost use Rattle.form.specs.Store.{no_store};
-ghost use Rattle.opening.specs.Opening.{past_clog, has_laid, opened_as, opened};
+ghost use Rattle.opening.specs.Opening.{past_clog, opened_in, opened_as, opened};
 ghost use Rattle.opens.specs.Inside.{Loadable, clog_by, time_by, meta_counters, plain_counters, store_at_rest, store_by};
+ghost use Rattle.opens.specs.Stops.{stopped, stopped_by};
 
-use fields::{CommitTime, TransactionId, numbers};
+use fields::{CommitTime, Refusal, TransactionId, numbers};
 use form::{Held, Store};
-use meta::{Counters, Stored};
-use opening::{Opened, Verdict};
+use meta::Counters;
+use opening::Unopened;
 use table::Table;
 use world::{Lens, Slot};
 
@@ -26,19 +26,13 @@ const TABLE_LIMIT: usize = 256;
 fn later_id(a: TransactionId, b: TransactionId) -> TransactionId
     ensures { result ≡ record { 0 = max a.0 b.0 } }
 {
-    if a.0 < b.0 {
-        return b;
-    }
-    a
+    TransactionId(a.0.max(b.0))
 }
 
 fn later_time(a: CommitTime, b: CommitTime) -> CommitTime
     ensures { result ≡ record { 0 = max a.0 b.0 } }
 {
-    if a.0 < b.0 {
-        return b;
-    }
-    a
+    CommitTime(a.0.max(b.0))
 }
 
 // One more than the largest time that is still Committed in the log's table, not of all its commit records.
@@ -55,17 +49,19 @@ fn meta_counters(m: Counters, logged: Table, full: Table) -> Counters
     let stored = later_id(m.next, above);
     let next = later_id(TransactionId(1), stored);
     let time = later_time(m.time, log_time(logged));
-    let mark = m.mark;
-    Counters { next, time, mark }
+    Counters {
+        next,
+        time,
+        mark: m.mark,
+    }
 }
 
 fn plain_counters(logged: Table) -> Counters
     ensures { result ≡ plain_counters logged }
 {
-    let time = log_time(logged);
     Counters {
         next: TransactionId(1),
-        time,
+        time: log_time(logged),
         mark: TransactionId(0),
     }
 }
@@ -75,55 +71,29 @@ fn store_at_rest(lens: Lens, c: Counters, t: Table) -> Store
     requires { lens.db ≤ 16777216 }
     ensures { result ≡ store_at_rest 4096 lens c t }
 {
-    let pages = (lens.db / numbers::PAGE_SIZE) as u32;
-    let next = c.next;
-    let time = c.time;
-    let mark = c.mark;
-    let touched = frames::no_pages();
-    let held = Held {
-        slot: Slot::Empty,
-        touched,
-    };
-    let frames = frames::no_frames();
     Store {
         lens,
-        pages,
-        next,
-        time,
-        mark,
+        pages: (lens.db / numbers::PAGE_SIZE) as u32,
+        next: c.next,
+        time: c.time,
+        mark: c.mark,
         table: t,
-        frames,
-        held,
+        frames: frames::no_frames(),
+        held: Held {
+            slot: Slot::Empty,
+            touched: frames::no_pages(),
+        },
     }
 }
 
-fn store_by(lens: Lens, stored: Stored, logged: Table, full: Table) -> Store
+fn store_by(lens: Lens, stored: Option<Counters>, logged: Table, full: Table) -> Store
     requires { lens.db ≤ 16777216 }
     ensures { result ≡ store_by 4096 lens stored logged full }
 {
     match stored {
-        Stored::Meta(m) => store_at_rest(lens, meta_counters(m, logged, full), full),
-        Stored::Nothing => store_at_rest(lens, plain_counters(logged), logged),
-        Stored::Outside => store_at_rest(lens, plain_counters(logged), logged),
+        Some(m) => store_at_rest(lens, meta_counters(m, logged, full), full),
+        None => store_at_rest(lens, plain_counters(logged), logged),
     }
-}
-
-// A refused opening hands out the same fixed value in a store's place.
-fn unopened(verdict: Verdict) -> Opened
-    ensures { result ≡ record { verdict = verdict; store = no_store } }
-{
-    let lens = Lens {
-        log: 0,
-        db: 0,
-        clog: 0,
-    };
-    let c = Counters {
-        next: TransactionId(0),
-        time: CommitTime(0),
-        mark: TransactionId(0),
-    };
-    let store = store_at_rest(lens, c, table::empty());
-    Opened { verdict, store }
 }
 
 // ---- the clog
@@ -134,82 +104,70 @@ fn record_all(clog: &mut [u8], len: usize, t: Table) -> usize
     ensures { file_of clog.new result ≡ record_all 8 0 (list_of t) (file_of clog.old len) }
 {
     let mut n = len;
-    let mut i = fields::smaller(t.count, TABLE_LIMIT);
-    while 0 < i {
-        i -= 1;
+    for i in (0..t.count.min(TABLE_LIMIT)).rev() {
         let e = t.entries[i];
-        let id = e.id;
-        let status = e.status;
-        n = fields::length_of(clog::record(clog, n, id, status));
+        n = clog::record(clog, n, e.id, e.status).unwrap_or(0);
     }
     n
 }
 
-// The clog opened and loaded, Active become Aborted in the file too, and the log's statuses recorded over it.
+// The clog opened and loaded, Active become Aborted in the file too, and the log's statuses recorded over it. The table that it loads was read before.
 fn load_clog(clog: &mut [u8], len: usize, logged: Table) -> usize
     requires { Loadable (file_of clog.old len) (list_of logged) }
     ensures { file_of clog.new result ≡ record_all 8 0 (list_of logged) (settled 8 (open_clog (file_of clog.old len))) }
 {
-    let end = fields::length_of(clog::open(clog, len));
-    let l = clog::load(clog, end);
-    let answer = l.answer;
-    record_all(clog, fields::length_of(answer), logged)
+    let end = clog::open(clog, len).unwrap_or(0);
+    let _ = clog::load(clog, end);
+    record_all(clog, end, logged)
 }
 
-fn clog_by(stored: Stored, clog: &mut [u8], len: usize, logged: Table) -> usize
+fn clog_by(stored: Option<Counters>, clog: &mut [u8], len: usize, logged: Table) -> usize
     requires { Loadable (file_of clog.old len) (list_of logged) }
     ensures { file_of clog.new result ≡ clog_by stored (list_of logged) (file_of clog.old len) }
 {
     match stored {
-        Stored::Meta(_) => load_clog(clog, len, logged),
-        Stored::Nothing => fields::length_of(clog::reset(clog, len)),
-        Stored::Outside => fields::length_of(clog::reset(clog, len)),
+        Some(_) => load_clog(clog, len, logged),
+        None => clog::reset(clog, len).unwrap_or(0),
     }
 }
 
 // ---- opening
 
-// Whether an opening with this number lays the log's images: it is accepted, or stops at a bad record.
-fn lays(number: u8) -> bool
-    ensures { result ≡ (eqb number 0 || has_laid number) }
+// Why a refused opening gives no store. At a bad record of the log the images before it are laid; any other refusal changes no byte. The log's length is end, the
+// database's is len.
+pub fn stop(r: Refusal, log: &[u8], end: usize, db: &mut [u8], len: usize) -> Unopened
+    ensures { stopped result db.new ≡ stopped_by 4096 r (file_of log.now end) (file_of db.old len) }
 {
-    if number == numbers::ACCEPTED {
-        return true;
+    match r {
+        Refusal::Torn => Unopened::Torn(replay::lay_images(log, end, db, len)),
+        Refusal::UnknownTag => Unopened::Unknown(replay::lay_images(log, end, db, len)),
+        _ => Unopened::Refused(r),
     }
-    if number == numbers::TORN {
-        return true;
-    }
-    number == numbers::UNKNOWN_TAG
 }
 
-pub fn open(lens: Lens, log: &mut [u8], db: &mut [u8], clog: &mut [u8], frames: &[u8]) -> Opened
-    ensures { opened_as result log.new db.new clog.new frames.now ≡ opened 4096 lens log.old db.old clog.old frames.now }
+pub fn open(
+    lens: Lens,
+    log: &mut [u8],
+    db: &mut [u8],
+    clog: &mut [u8],
+    frames: &[u8],
+) -> Result<Store, Unopened>
+    ensures { opened_as (opened_in result) log.new db.new clog.new frames.now ≡ opened 4096 lens log.old db.old clog.old frames.now }
 {
-    let s = scan::survey(lens, &log[..], &db[..], &clog[..], frames);
-    let no = s.number;
-    if !lays(no) {
-        return unopened(Verdict::Refused(no));
-    }
+    let found = scan::survey(lens, &log[..], &db[..], &clog[..], frames);
+    let tables = match found {
+        Ok(tables) => tables,
+        Err(r) => return Err(stop(r, &log[..], lens.log, db, lens.db)),
+    };
     let n = replay::lay_images(&log[..], lens.log, db, lens.db);
-    if no == numbers::TORN {
-        return unopened(Verdict::Torn(n));
-    }
-    if no == numbers::UNKNOWN_TAG {
-        return unopened(Verdict::Unknown(n));
-    }
-    let stored = meta::read_meta(&db[..], n);
-    let logged = s.logged;
-    let full = s.full;
-    let c = clog_by(stored, clog, lens.clog, logged);
-    let l = fields::length_of(wal::truncate(log, lens.log));
+    // The database was tested, so that its page 0 can be read.
+    let stored = meta::read_meta(&db[..], n).unwrap_or(None);
+    let c = clog_by(stored, clog, lens.clog, tables.logged);
+    let l = wal::truncate(log, lens.log).unwrap_or(0);
     let left = Lens {
         log: l,
         db: n,
         clog: c,
     };
-    let store = store_by(left, stored, logged, full);
-    Opened {
-        verdict: Verdict::Accepted(n),
-        store,
-    }
+    Ok(store_by(left, stored, tables.logged, tables.full))
 }

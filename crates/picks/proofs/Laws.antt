@@ -1,33 +1,34 @@
 -- Laws of picked pages: a turn of each loop, and what a pick is. Assumes nothing.
 use mathlib.Core.Path.{◌≡◌, refl, sym, ap, ◌∙◌}
 use mathlib.Core.List.{List, [], ◌∷◌, ◌++◌, append-nil, append_assoc, map}
-use mathlib.Core.Bool.{Bool, true, false, cond}
+use mathlib.Core.Bool.{Bool, true, false, cond, ◌||◌}
+use lib.Dec.{eqb}
 use Prim.Native.Nat.{ℕ, suc, ◌+◌, ◌-◌, ◌≤◌, ◌<◌}
 use native.Mathlib.Numerals.{add-one}
 use native.Mathlib.Omega.{arith}
-use borrow.Author.Tests.{eq-eqb, ne_eqb}
 use lib.ListN.{length, take, get_or, set, replicate, length-append, length-map, length-take}
 use lib.Seq.{take-suc, set_at}
 use Rattle.fields.specs.Answers.{Told}
-use Rattle.frames.specs.Pages.{is_in, slot_of, found_in, place_told}
-use Rattle.frames.specs.declared.Place.{Place}
-use Rattle.frames.specs.declared.Place.TheVariants.{At, Nowhere}
-use Rattle.world.specs.Calls.{keep, is_catalog}
+use Rattle.std.specs.List.{list_any}
+use Rattle.frames.specs.Pages.{is_in, bad_page, any_bad, slot_of, found_in, place_told}
+use Rattle.std.specs.Prelude.{Option, Some, None}
+use Rattle.world.specs.Calls.{keep}
 use Rattle.picks.specs.declared.Which.{Which}
 use Rattle.picks.specs.declared.Picked.{Picked}
 use Rattle.picks.specs.Picks.{wants, chosen, Seat, seat, seats_of, picked_of}
 use Rattle.picks.specs.Inside.{seat_if, grown}
 
--- ---- catalog pages
+-- ---- tests of a list, as std words them
 
-pub catalog-1 : (list : List ℕ) (p : ℕ) → p ≡ 1 → is_catalog list p ≡ true
-catalog-1 list p e = rw (eq-eqb p 1 e)
+pub in_any : (p : ℕ) (ps : List ℕ) → is_in p ps ≡ list_any (λ q. eqb q p) ps
+unfolding is_in
+in_any p [] = refl
+in_any p (q ∷ qs) = ap (λ (b : Bool). eqb q p || b) (in_any p qs)
 
-pub catalog-2 : (list : List ℕ) (p : ℕ) → (p ≡ 1 → ⊥) → p ≡ 2 → is_catalog list p ≡ true
-catalog-2 list p n e = rw (ne_eqb p 1 n, eq-eqb p 2 e)
-
-pub catalog-list : (list : List ℕ) (p : ℕ) → (p ≡ 1 → ⊥) → (p ≡ 2 → ⊥) → is_catalog list p ≡ is_in p list
-catalog-list list p n m = rw (ne_eqb p 1 n, ne_eqb p 2 m)
+pub bad-any : (ps : List ℕ) → any_bad ps ≡ list_any bad_page ps
+unfolding any_bad
+bad-any [] = refl
+bad-any (p ∷ ps) = ap (λ (b : Bool). bad_page p || b) (bad-any ps)
 
 -- ---- one more, stored at the count
 
@@ -118,11 +119,11 @@ picked_none N which list os ts = refl
 pub seat-no : (ok : Bool) (p : ℕ) (vs : List ℕ) (q : Picked) → ok ≡ false → q ≡ grown q (seat_if ok p vs)
 seat-no ok p vs q e = rw e
 
-pub seat-none : (ok : Bool) (p : ℕ) (place : Place) (q : Picked) → place ≡ Nowhere → q ≡ grown q (seat_if ok p (place_told place).values)
+pub seat-none : (ok : Bool) (p : ℕ) (place : Option ℕ) (q : Picked) → place ≡ None → q ≡ grown q (seat_if ok p (place_told place).values)
 seat-none true p place q e = rw e
 seat-none false p place q e = refl
 
-pub seat-some : (ok : Bool) (p k : ℕ) (place : Place) → ok ≡ true → place ≡ At k → seat_if ok p (place_told place).values ≡ seat p k ∷ []
+pub seat-some : (ok : Bool) (p k : ℕ) (place : Option ℕ) → ok ≡ true → place ≡ Some k → seat_if ok p (place_told place).values ≡ seat p k ∷ []
 seat-some ok p k place e f = rw (e, f)
 
 -- ---- a turn of the pick, said of what the callees gave

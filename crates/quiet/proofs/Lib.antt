@@ -1,3 +1,4 @@
+pub mod Refused
 pub mod Transactions
 pub mod Pages
 pub mod Answers

@@ -1,39 +1,44 @@
 -- Laws of reading and writing a page: its seat, the ways out of the code, and that a frame which is written whole need not be filled first. Assumes nothing.
-use Prim.Native.Nat.{ℕ, zero, suc, ◌+◌, ◌*◌, ◌≤◌, ◌<◌, max}
+use Prim.Native.Nat.{ℕ, ◌+◌, ◌*◌, ◌≤◌, ◌<◌, max}
 use native.Mathlib.Omega.{arith}
-use mathlib.Core.Path.{◌≡◌, refl, sym, ap, subst, ◌∙◌}
+use mathlib.Core.Path.{◌≡◌, refl, sym, ap, ◌∙◌}
 use mathlib.Core.List.{List, [], ◌∷◌}
 use mathlib.Core.Bool.{Bool, true, false, cond}
 use lib.ListN.{length, replicate, length-append}
 use lib.Dec.{ltb}
 use lib.Seq.{sets, length-sets}
 use borrow.Author.Tests.{le-leb, lt-leb, le-ltb, lt-ltb}
+use Rattle.std.specs.Prelude.{Option, Some, None, Result, Err}
+use Rattle.std.specs.Option.{is_some, unwrap_or}
+use Rattle.std.specs.Result.{IsErr, IsErrAnd}
+use Rattle.fields.specs.declared.refusal.Refusal.{Refusal}
+use Rattle.fields.specs.Refusals.{number_of}
+use Rattle.fields.proofs.AnswerLaws.{number-positive, handed-on}
 use Rattle.fields.specs.Bytes.{part}
 use Rattle.fields.specs.Files.{file_of}
 use Rattle.fields.proofs.Tests.{Order, less, most, order}
 use Rattle.fields.proofs.ByteLaws.{part-whole}
 use Rattle.fields.proofs.Stored.{sets-again}
-use Rattle.frames.specs.declared.Seated.{Seated}
-use Rattle.frames.specs.declared.Place.{Place}
-use Rattle.frames.specs.declared.Place.TheVariants.{At, Nowhere}
+use Rattle.frames.specs.declared.Frames.{Frames}
 use Rattle.frames.specs.Pages as pages
-use Rattle.frames.specs.Pages.{is_in, slot_of, with_page, laid_frames, frame_count, place_told, found_in, seated}
+use Rattle.frames.specs.Pages.{is_in, slot_of, with_page, laid_frames, frame_count, place_told, found_in, Seated, seated_as, seated}
 use Rattle.frames.specs.Copies.{page_of}
 use Rattle.frames.proofs.Lists.{slot-absent, with-old, with-new, with-slot}
-use Rattle.frames.proofs.Values.{at-means, nowhere-means, seat-old, seat-new, seat-full}
+use Rattle.frames.proofs.Values.{at-means, nowhere-means, seat-old, seat-new, seat-full, seat-refused}
 use Rattle.frames.proofs.CopyLaws.{length-page}
 use Rattle.world.specs.Steps.{apply_all}
 use Rattle.world.specs.Calls.{Read, Write, steps, keeps, seat, write, held_page}
 use Rattle.world.specs.Refusals.{argument_no, call_no, hold_no, front_no, refuses}
-use Rattle.world.specs.Run.{done, decided}
+use Rattle.world.specs.Run.{done}
 use Rattle.form.specs.declared.Store.{Store}
-use Rattle.form.specs.Store.{resident_of, mem_of, world_of, laid_store, outcome, ending, called, given, handed}
+use Rattle.form.specs.Store.{resident_of, mem_of, world_of, laid_store, changed, outcome, ending, called, value_in, changed_in, given}
 use Rattle.form.proofs.Arrays.{Sized, length-first}
 use Rattle.form.proofs.Front.{InForm, front-means, entries-length, touched-length, resident-length, resident-are, table_same, frames-same, touched-same}
-use Rattle.form.proofs.Called.{accepted, refused, quiet_is, handed-accepted, handed-refused}
+use Rattle.form.proofs.Called.{accepted, quiet_is, handed-accepted}
 use Rattle.quiet.specs.declared.Seat.{Seat}
 use Rattle.quiet.specs.Handed.{page_read}
-use Rattle.quiet.specs.Inside.{seat_of}
+use Rattle.quiet.specs.Inside.{SeatTold, seat_told, seat_of}
+use Rattle.quiet.proofs.Refused.{decided-refused, by-call, refused-on, handed-out}
 
 -- ---- a page's seat: it has one, it takes the next frame, or there is none
 
@@ -148,10 +153,26 @@ module _ (P : ℕ) (p : ℕ) (s : Store) (log db clog frames : List ℕ) where
 -- ---- the ways out of the seat
 
 module _ (P : ℕ) (p : ℕ) (s : Store) (log db clog frames : List ℕ) where
-  seat-none : (n : ℕ) → refuses P (Read p) (world_of s log db clog frames) ≡ suc n →
-      ◌≡◌ {A = Seat} (record { number = suc n; there = true; slot = 0; store = s }) (seat_of P p s log db clog frames)
+  -- a seat tells the number of the call
+  pub seat-number : (x : SeatTold) → x ≡ seat_of P p s log db clog frames → refuses P (Read p) (world_of s log db clog frames) ≡ x.number
   unfolding seat_of
-  seat-none n e = rw e
+  seat-number x e = sym (ap (λ (y : SeatTold). y.number) e)
+
+  pub seat-with : (r : Refusal) → refuses P (Read p) (world_of s log db clog frames) ≡ number_of r → seat_told s (Err r) ≡ seat_of P p s log db clog frames
+  unfolding seat_of
+  seat-with r e =
+      let w = world_of s log db clog frames in
+      rw (
+        e,
+        decided-refused (is_in p w.mem.resident) true r,
+        decided-refused (slot_of p w.mem.resident) 0 r,
+        decided-refused (laid_store s (done P (Read p) w)) s r,
+      )
+
+  -- what `?` hands on
+  pub seat-on : (x : Result Seat Refusal) (r : Refusal) → IsErr x × IsErrAnd x (λ e. e ≡ r) →
+      refuses P (Read p) (world_of s log db clog frames) ≡ number_of r → seat_told s x ≡ seat_of P p s log db clog frames
+  seat-on x r h e = ap (seat_told s) (handed-on x r h) ∙ seat-with r e
 
   seat-is : refuses P (Read p) (world_of s log db clog frames) ≡ 0 →
       seat_of P p s log db clog frames ≡
@@ -164,102 +185,59 @@ module _ (P : ℕ) (p : ℕ) (s : Store) (log db clog frames : List ℕ) where
   unfolding seat_of world_of mem_of
   seat-is e = rw e
 
-  pub seat-front : (n : ℕ) → n ≡ front_no P (world_of s log db clog frames) → (n ≡ 0 → ⊥) →
-      ◌≡◌ {A = Seat} (record { number = n; there = true; slot = 0; store = s }) (seat_of P p s log db clog frames)
-  unfolding refuses
-  seat-front zero e h = absurd (h refl)
-  seat-front (suc n) e h = seat-none n (rw (← e))
+  module _ (e0 : 0 ≡ front_no P (world_of s log db clog frames)) where
+    pub seat-10 : 4294967295 ≤ p → refuses P (Read p) (world_of s log db clog frames) ≡ 10
+    seat-10 h = by-call P (Read p) s log db clog frames 10 e0 (read-10 P p s log db clog frames h)
 
-  module _ (e0 : front_no P (world_of s log db clog frames) ≡ 0) where
-    pub seat-10 : 4294967295 ≤ p → ◌≡◌ {A = Seat} (record { number = 10; there = true; slot = 0; store = s }) (seat_of P p s log db clog frames)
-    unfolding refuses
-    seat-10 h = seat-none 9 (rw (e0, read-10 P p s log db clog frames h))
+    module _ (good : p < 4294967295) (z : Sized s) where
+      i : InForm P s log db clog frames
+      i = front-means P s log db clog frames (sym e0)
 
-    module _ (good : p < 4294967295) (z : Sized s) (r : Seated) (is : r ≡ seated 64 P s.frames (length frames) p) where
-      number_is : r.number ≡ (seated 64 P s.frames (length frames) p).number
-      number_is = ap (λ (x : Seated). x.number) is
+      -- no frame is left
+      pub seat-8 : (r : Refusal) → seated_as (number_of r) s.frames ≡ seated 64 P s.frames (length frames) p →
+          refuses P (Read p) (world_of s log db clog frames) ≡ number_of r
+      seat-8 r is =
+          let k : number_of r ≡ (seated 64 P s.frames (length frames) p).number = ap (λ (x : Seated). x.number) is in
+          let n : (seated 64 P s.frames (length frames) p).number ≡ 0 → ⊥ = λ e. omega (arith, e, k, number-positive r) in
+          let m : number_of r ≡ 8 = k ∙ ap (λ (x : Seated). x.number) (seat-refused 64 P s.frames (length frames) p n) in
+          by-call P (Read p) s log db clog frames 8 e0 (read-8 P p s log db clog frames good i z n) ∙ sym m
 
-      pub seat-8 : (r.number ≡ 0 → ⊥) → ◌≡◌ {A = Seat} (record { number = 8; there = true; slot = 0; store = s }) (seat_of P p s log db clog frames)
-      unfolding refuses
-      seat-8 h =
-          let i = front-means P s log db clog frames e0 in
-          seat-none 7 (rw (e0, read-8 P p s log db clog frames good i z (λ e. h (number_is ∙ e))))
+      -- a page's place among the resident ones, and for a new page the next
+      place-is : (place : Option ℕ) → place_told place ≡ found_in p (pages.resident_of s.frames) →
+          (is_some place ≡ is_in p (resident_of s.frames)) × (unwrap_or place s.frames.count ≡ slot_of p (resident_of s.frames))
+      place-is (Some slot) e =
+          let m = at-means p (pages.resident_of s.frames) slot e in
+          (rw (resident-are P s log db clog frames i z) (sym m.0), rw (resident-are P s log db clog frames i z) m.1)
+      place-is None e =
+          let n : is_in p (resident_of s.frames) ≡ false = rw (resident-are P s log db clog frames i z) (nowhere-means p (pages.resident_of s.frames) e) in
+          (sym n, sym (slot-absent p (resident_of s.frames) n ∙ length-first 0 s.frames.count s.frames.pages))
 
-      module _ (ok : r.number ≡ 0) (k : ℕ) (up : k ≡ max s.pages (p + 1)) where
-        -- the code's record, for whatever place it has found
-        seat-out : (b : Bool) (slot : ℕ) → b ≡ is_in p (resident_of s.frames) → slot ≡ slot_of p (resident_of s.frames) →
-            ◌≡◌ {A = Seat}
-            (record {
-              number = 0;
-              there = b;
-              slot = slot;
-              store = record {
-                lens = s.lens;
-                pages = k;
-                next = s.next;
-                time = s.time;
-                mark = s.mark;
-                table = s.table;
-                frames = r.frames;
-                held = s.held;
-              };
-            })
-            (seat_of P p s log db clog frames)
-        unfolding refuses
-        seat-out b slot eb es =
-            let i = front-means P s log db clog frames e0 in
-            let n0 = sym number_is ∙ ok in
-            let none : refuses P (Read p) (world_of s log db clog frames) ≡ 0 = rw (e0, read-0 P p s log db clog frames good i z n0) in
-            let rf : r.frames ≡ (seated 64 P s.frames (length frames) p).frames = ap (λ (x : Seated). x.frames) is in
-            rw (seat-is none, seat-store P p s log db clog frames good i z n0, eb, es, rf, up)
-
-        pub seat-at : (place : Place) (slot : ℕ) → place ≡ At slot → place_told place ≡ found_in p (pages.resident_of s.frames) →
-            ◌≡◌ {A = Seat}
-            (record {
-              number = 0;
-              there = true;
-              slot = slot;
-              store = record {
-                lens = s.lens;
-                pages = k;
-                next = s.next;
-                time = s.time;
-                mark = s.mark;
-                table = s.table;
-                frames = r.frames;
-                held = s.held;
-              };
-            })
-            (seat_of P p s log db clog frames)
-        seat-at place slot e f =
-            let i = front-means P s log db clog frames e0 in
-            let m = at-means p (pages.resident_of s.frames) slot (sym (ap place_told e) ∙ f) in
-            seat-out true slot (rw (resident-are P s log db clog frames i z) (sym m.0)) (rw (resident-are P s log db clog frames i z) m.1)
-
-        pub seat-nowhere : (place : Place) → place ≡ Nowhere → place_told place ≡ found_in p (pages.resident_of s.frames) →
-            ◌≡◌ {A = Seat}
-            (record {
-              number = 0;
-              there = false;
-              slot = s.frames.count;
-              store = record {
-                lens = s.lens;
-                pages = k;
-                next = s.next;
-                time = s.time;
-                mark = s.mark;
-                table = s.table;
-                frames = r.frames;
-                held = s.held;
-              };
-            })
-            (seat_of P p s log db clog frames)
-        seat-nowhere place e f =
-            let i = front-means P s log db clog frames e0 in
-            let m = nowhere-means p (pages.resident_of s.frames) (sym (ap place_told e) ∙ f) in
-            let n : is_in p (resident_of s.frames) ≡ false = rw (resident-are P s log db clog frames i z) m in
-            seat-out false s.frames.count (sym n)
-            (sym (slot-absent p (resident_of s.frames) n ∙ length-first 0 s.frames.count s.frames.pages))
+      pub seat-out : (f : Frames) → seated_as 0 f ≡ seated 64 P s.frames (length frames) p → (k : ℕ) → k ≡ max s.pages (p + 1) →
+          (place : Option ℕ) → place_told place ≡ found_in p (pages.resident_of s.frames) →
+          (b : Bool) (slot : ℕ) → b ≡ is_some place → slot ≡ unwrap_or place s.frames.count →
+          ◌≡◌ {A = SeatTold}
+          (record {
+            number = 0;
+            there = b;
+            slot = slot;
+            store = record {
+              lens = s.lens;
+              pages = k;
+              next = s.next;
+              time = s.time;
+              mark = s.mark;
+              table = s.table;
+              frames = f;
+              held = s.held;
+            };
+          })
+          (seat_of P p s log db clog frames)
+      seat-out f is k up place found b slot eb es =
+          let n0 : (seated 64 P s.frames (length frames) p).number ≡ 0 = sym (ap (λ (x : Seated). x.number) is) in
+          let rf : f ≡ (seated 64 P s.frames (length frames) p).frames = ap (λ (x : Seated). x.frames) is in
+          let none : refuses P (Read p) (world_of s log db clog frames) ≡ 0 = by-call P (Read p) s log db clog frames 0 e0 (read-0 P p s log db clog frames good i z n0) in
+          let at = place-is place found in
+          rw (seat-is none, seat-store P p s log db clog frames good i z n0, eb, es, at.0, at.1, rf, up)
 
 -- ---- reading and writing
 
@@ -295,36 +273,27 @@ module _ (P : ℕ) (p : ℕ) (s : Store) (log db clog frames : List ℕ) where
           (let v = done P (Read p) (world_of s log db clog frames) in ending 0 (laid_store s v) v)
       files-same = refl
 
-  pub read-refused : (seat : Seat) → seat ≡ seat_of P p s log db clog frames → (seat.number ≡ 0 → ⊥) →
-      given (replicate P 0) (record { number = seat.number; store = seat.store }) log db clog frames ≡ page_read P p s log db clog frames
-  unfolding page_read seat_of
-  read-refused seat is h =
-      subst
-      (λ (x : Seat). (x.number ≡ 0 → ⊥) →
-      given (replicate P 0) (record { number = x.number; store = x.store }) log db clog frames ≡ page_read P p s log db clog frames)
-      (sym is) (go (refuses P (Read p) (world_of s log db clog frames)) refl) h
-    where
-      go : (n : ℕ) → refuses P (Read p) (world_of s log db clog frames) ≡ n → (n ≡ 0 → ⊥) →
-          given (replicate P 0) (record { number = n; store = decided n (laid_store s (done P (Read p) (world_of s log db clog frames))) s }) log db clog frames ≡
-          handed (held_page P (done P (Read p) (world_of s log db clog frames)) p) (replicate P 0) (called P (Read p) s log db clog frames)
-      go zero e n = absurd (n refl)
-      go (suc n) e h =
-          handed-refused (held_page P (done P (Read p) (world_of s log db clog frames)) p) (replicate P 0) s log db clog frames
-          (called P (Read p) s log db clog frames) (suc n) h (refused P (Read p) s s log db clog frames n e)
+  pub read-refused : (x : Result (List ℕ × Store) Refusal) (r : Refusal) → IsErr x × IsErrAnd x (λ e. e ≡ r) →
+      seat_told s (Err r) ≡ seat_of P p s log db clog frames →
+      given (value_in (replicate P 0) x) (changed_in s x) log db clog frames ≡ page_read P p s log db clog frames
+  unfolding page_read
+  read-refused x r h e =
+      handed-out P (Read p) s log db clog frames (held_page P (done P (Read p) (world_of s log db clog frames)) p) (replicate P 0) x r h
+      (seat-number P p s log db clog frames _ e)
 
-  module _ (seat : Seat) (is : seat ≡ seat_of P p s log db clog frames) (ok : seat.number ≡ 0) where
+  module _ (seat : SeatTold) (is : seat ≡ seat_of P p s log db clog frames) (ok : seat.number ≡ 0) where
     none : refuses P (Read p) (world_of s log db clog frames) ≡ 0
     unfolding seat_of
-    none = sym (ap (λ (x : Seat). x.number) is) ∙ ok
+    none = sym (ap (λ (x : SeatTold). x.number) is) ∙ ok
 
     there-is : seat.there ≡ is_in p (resident_of s.frames)
-    there-is = ap (λ (x : Seat). x.there) (is ∙ seat-is P p s log db clog frames none)
+    there-is = ap (λ (x : SeatTold). x.there) (is ∙ seat-is P p s log db clog frames none)
 
     slot_is : seat.slot ≡ slot_of p (resident_of s.frames)
-    slot_is = ap (λ (x : Seat). x.slot) (is ∙ seat-is P p s log db clog frames none)
+    slot_is = ap (λ (x : SeatTold). x.slot) (is ∙ seat-is P p s log db clog frames none)
 
     store_is : seat.store ≡ laid_store s (done P (Read p) (world_of s log db clog frames))
-    store_is = ap (λ (x : Seat). x.store) (is ∙ seat-is P p s log db clog frames none)
+    store_is = ap (λ (x : SeatTold). x.store) (is ∙ seat-is P p s log db clog frames none)
 
     pub read_out : (buffer bytes : List ℕ) → buffer ≡ cond seat.there frames (sets frames (seat.slot * P) filed) → bytes ≡ part P buffer (seat.slot * P) →
         given bytes (record { number = seat.number; store = seat.store }) log db clog buffer ≡ page_read P p s log db clog frames
@@ -344,7 +313,7 @@ module _ (P : ℕ) (p : ℕ) (bytes : List ℕ) (s : Store) (log db clog frames 
   unfolding hold_no write
   write-hold = rw length-sets
 
-  write-no : refuses P (Write p bytes) (world_of s log db clog frames) ≡ refuses P (Read p) (world_of s log db clog frames)
+  pub write-no : refuses P (Write p bytes) (world_of s log db clog frames) ≡ refuses P (Read p) (world_of s log db clog frames)
   unfolding refuses call_no argument_no steps keeps write world_of
   write-no = rw write-hold
 
@@ -380,22 +349,12 @@ module _ (P : ℕ) (p : ℕ) (bytes : List ℕ) (s : Store) (log db clog frames 
           (let v = done P (Write p bytes) (world_of s log db clog frames) in ending 0 (laid_store s v) v)
       files-same = refl
 
-  module _ (seat : Seat) (is : seat ≡ seat_of P p s log db clog frames) where
-    pub write-refused : (seat.number ≡ 0 → ⊥) →
-        outcome (record { number = seat.number; store = seat.store }) log db clog frames ≡ called P (Write p bytes) s log db clog frames
-    unfolding seat_of
-    write-refused h =
-        subst
-        (λ (x : Seat). (x.number ≡ 0 → ⊥) →
-        outcome (record { number = x.number; store = x.store }) log db clog frames ≡ called P (Write p bytes) s log db clog frames)
-        (sym is) (go (refuses P (Read p) (world_of s log db clog frames)) write-no) h
-      where
-        go : (n : ℕ) → refuses P (Write p bytes) (world_of s log db clog frames) ≡ n → (n ≡ 0 → ⊥) →
-            outcome (record { number = n; store = decided n (laid_store s (done P (Read p) (world_of s log db clog frames))) s }) log db clog frames ≡
-            called P (Write p bytes) s log db clog frames
-        go zero e n = absurd (n refl)
-        go (suc n) e h = refused P (Write p bytes) s s log db clog frames n e
+  pub write-refused : (x : Result Store Refusal) (r : Refusal) → IsErr x × IsErrAnd x (λ e. e ≡ r) →
+      seat_told s (Err r) ≡ seat_of P p s log db clog frames → outcome (changed s x) log db clog frames ≡ called P (Write p bytes) s log db clog frames
+  write-refused x r h e =
+      refused-on P (Write p bytes) s log db clog frames s x r h (write-no ∙ seat-number P p s log db clog frames _ e)
 
+  module _ (seat : SeatTold) (is : seat ≡ seat_of P p s log db clog frames) where
     pub write-out : seat.number ≡ 0 → length bytes ≡ P → (buffer : List ℕ) → buffer ≡ sets frames (seat.slot * P) bytes →
         outcome (record { number = seat.number; store = seat.store }) log db clog buffer ≡ called P (Write p bytes) s log db clog frames
     write-out ok len buffer f =

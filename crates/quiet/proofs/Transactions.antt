@@ -1,4 +1,4 @@
--- Laws of install, uninstall and the allocations, one for each way out of the code. Assumes nothing.
+-- Laws of install, uninstall and the allocations: their numbers, and what they leave where they are accepted. Assumes nothing.
 use Prim.Native.Nat.{ℕ, ◌+◌, ◌≤◌, ◌<◌}
 use native.Mathlib.Omega.{arith}
 use mathlib.Core.Path.{◌≡◌, refl}
@@ -7,9 +7,7 @@ use mathlib.Core.Bool.{true, false}
 use lib.ListN.{length}
 use borrow.Author.Tests.{le-leb, lt-leb}
 use Rattle.table.specs.Entries.{next64}
-use Rattle.frames.specs.declared.Touched.{Touched}
 use Rattle.frames.specs.declared.Transaction.{Transaction}
-use Rattle.frames.specs.Pages.{empty_touched}
 use Rattle.world.specs.declared.Slot.TheVariants.{Installed, Empty}
 use Rattle.world.specs.Steps.{apply_all}
 use Rattle.world.specs.Calls.{Uninstall, AllocId, AllocPage, steps, keeps}
@@ -19,7 +17,7 @@ use Rattle.form.specs.declared.Store.{Store}
 use Rattle.form.specs.Store.{no_held, touched_of, mem_of, world_of, laid_store, outcome, called, called_on, with_array, installed, given}
 use Rattle.form.proofs.Arrays.{Sized, length-first}
 use Rattle.form.proofs.Front.{front-means, touched-few, entries-length, touched-length, resident-length, table_same, frames-same, touched-same}
-use Rattle.form.proofs.Called.{refused-front, refused-call, accepted-call, quiet, handed-accepted, handed-refused}
+use Rattle.form.proofs.Called.{accepted-call, quiet, handed-accepted}
 use Rattle.fields.specs.Answers.{no_id}
 use Rattle.quiet.specs.Handed.{uninstalled, id_allocated, page_allocated}
 
@@ -73,27 +71,6 @@ module _ (P : ℕ) (x : Transaction) (s : Store) (log db clog frames : List ℕ)
 -- ---- uninstall and the allocations
 
 module _ (P : ℕ) (s : Store) (log db clog frames : List ℕ) where
-  pub uninstall-refused : (n : ℕ) (t : Touched) → t ≡ empty_touched 64 → n ≡ front_no P (world_of s log db clog frames) → (n ≡ 0 → ⊥) →
-      given (record { slot = Empty; touched = t }) (record { number = n; store = s }) log db clog frames ≡ uninstalled P s log db clog frames
-  unfolding uninstalled
-  uninstall-refused n t f e h =
-      rw f
-      (handed-refused s.held no_held s log db clog frames (called P Uninstall s log db clog frames) n h
-      (refused-front P Uninstall s s log db clog frames n e h))
-
-  pub id-refused : (n : ℕ) → n ≡ front_no P (world_of s log db clog frames) → (n ≡ 0 → ⊥) →
-      given no_id (record { number = n; store = s }) log db clog frames ≡ id_allocated P s log db clog frames
-  unfolding id_allocated
-  id-refused n e h =
-      handed-refused s.next no_id s log db clog frames (called P AllocId s log db clog frames) n h (refused-front P AllocId s s log db clog frames n e h)
-
-  pub page-refused : (n : ℕ) → n ≡ front_no P (world_of s log db clog frames) → (n ≡ 0 → ⊥) →
-      given 0 (record { number = n; store = s }) log db clog frames ≡ page_allocated P s log db clog frames
-  unfolding page_allocated
-  page-refused n e h =
-      handed-refused s.pages 0 s log db clog frames (called P AllocPage s log db clog frames) n h
-      (refused-front P AllocPage s s log db clog frames n e h)
-
   module _ (e0 : front_no P (world_of s log db clog frames) ≡ 0) where
     uninstall-0 : call_no P Uninstall (world_of s log db clog frames) ≡ 0
     unfolding argument_no steps keeps world_of mem_of
@@ -115,16 +92,9 @@ module _ (P : ℕ) (s : Store) (log db clog frames : List ℕ) where
         quiet P AllocPage s log db clog frames i (rw (lt-leb 4294967295 s.pages h)) refl (touched-length P s log db clog frames i)
         (entries-length P s log db clog frames i) (resident-length P s log db clog frames i)
 
-    page-10 : 4294967295 ≤ s.pages → call_no P AllocPage (world_of s log db clog frames) ≡ 10
+    pub page-10 : 4294967295 ≤ s.pages → call_no P AllocPage (world_of s log db clog frames) ≡ 10
     unfolding call_no argument_no world_of mem_of
     page-10 h = rw (le-leb 4294967295 s.pages h)
-
-    -- no page is left to allocate
-    pub page-none : 4294967295 ≤ s.pages → given 0 (record { number = 10; store = s }) log db clog frames ≡ page_allocated P s log db clog frames
-    unfolding page_allocated
-    page-none h =
-        handed-refused s.pages 0 s log db clog frames (called P AllocPage s log db clog frames) 10 (λ e. omega arith)
-        (refused-call P AllocPage s s log db clog frames 9 e0 (page-10 h))
 
     module _ (z : Sized s) where
       uninstall-called :

@@ -1,30 +1,24 @@
 // The calls that have no stores: install, uninstall, allocate an id or a page, read and write a page. Each takes the store, the four buffers and its own arguments,
-// tests 1 and 14 first, and hands back a number and the store; a refusal hands back the old store and changes no buffer. Every public function is total: its
+// tests 1 and 14 first, and hands back the changed store, or why it is refused: a refusal changes neither the store nor a buffer. Every public function is total: its
 // contract is one equation with a call of specs, which says the answer, the store and every byte of the buffers. Two more tell the table's entries and change nothing.
 #![tactic(auto)]
 
-ghost use Rattle.std.specs.Prelude.{◌≡◌, true, cond, ◌+◌, ◌*◌, ◌<◌, max};
+ghost use Rattle.std.specs.Prelude.{◌≡◌, cond, ◌*◌, replicate};
 ghost use Rattle.std.proofs.lemmas.List.Edits.{sets};
 ghost use Rattle.fields.specs.Files.{file_of};
 ghost use Rattle.frames.specs.Copies.{page_of};
 ghost use Rattle.world.specs.Calls.{Write};
-ghost use Rattle.form.specs.Store.{outcome, called, called_on, with_array, installed, given};
+ghost use Rattle.fields.specs.Answers.{no_id};
+ghost use Rattle.form.specs.Store.{no_held, changed, outcome, called, called_on, with_array, installed, value_in, changed_in, given};
 ghost use Rattle.quiet.specs.Handed.{uninstalled, id_allocated, page_allocated, page_read};
-ghost use Rattle.quiet.specs.Inside.{seat_of};
-ghost use Rattle.quiet.specs.Entries.{entries_counted, entry_told, entry_read};
+ghost use Rattle.quiet.specs.Inside.{seat_told, seat_of};
+ghost use Rattle.quiet.specs.Entries.{count_told, entries_counted, entry_told, entry_read};
 
-use fields::{TransactionId, numbers};
-use form::{Changed, Held, Store};
-use frames::{Place, Touched, Transaction};
+use fields::{Refusal, TransactionId, numbers};
+use form::{Held, Store};
+use frames::{Touched, Transaction};
 use table::Entry;
 use world::Slot;
-
-// What a refused call answers: the old store.
-fn refused(number: u8, s: Store) -> Changed
-    ensures { result ≡ record { number = number; store = s } }
-{
-    Changed { number, store: s }
-}
 
 // A transaction is put in.
 pub fn install(
@@ -34,260 +28,153 @@ pub fn install(
     db: &[u8],
     clog: &[u8],
     frames: &[u8],
-) -> Changed
-    ensures { outcome result log.now db.now clog.now frames.now ≡ called_on 4096 (installed x) (with_array s x.touched) s log.now db.now clog.now frames.now }
+) -> Result<Store, Refusal>
+    ensures { outcome (changed s result) log.now db.now clog.now frames.now ≡ called_on 4096 (installed x) (with_array s x.touched) s log.now db.now clog.now frames.now }
 {
-    let no = form::front_no(s, log, db, clog, frames);
-    if no != numbers::ACCEPTED {
-        return refused(no, s);
+    form::check_front(s, log, db, clog, frames)?;
+    if !frames::touched_formed(x.touched) {
+        return Err(Refusal::OutOfForm);
     }
-    let touched = x.touched;
-    if !frames::touched_formed(touched) {
-        return refused(numbers::OUT_OF_FORM, s);
+    if form::is_installed(s.held.slot) {
+        return Err(Refusal::Occupied);
     }
-    let old = s.held;
-    let slot = old.slot;
-    if form::is_installed(slot) {
-        return refused(numbers::OCCUPIED, s);
-    }
-    let id = x.id;
     let held = Held {
-        slot: Slot::Installed(id),
-        touched,
+        slot: Slot::Installed(x.id),
+        touched: x.touched,
     };
-    let u = Store { held, ..s };
-    Changed {
-        number: numbers::ACCEPTED,
-        store: u,
-    }
+    Ok(Store { held, ..s })
 }
 
-// What an uninstall hands out: the transaction that was in, or none.
-#[derive(Clone, Copy)]
-pub struct Uninstalled {
-    pub held: Held,
-    pub changed: Changed,
-}
-
-// The transaction is handed out. Its pages stay in the array past the count, which is 0 then.
-pub fn uninstall(s: Store, log: &[u8], db: &[u8], clog: &[u8], frames: &[u8]) -> Uninstalled
-    ensures { given result.held result.changed log.now db.now clog.now frames.now ≡ uninstalled 4096 s log.now db.now clog.now frames.now }
+// The transaction that was in is handed out, or none. Its pages stay in the array past the count, which is 0 then.
+pub fn uninstall(
+    s: Store,
+    log: &[u8],
+    db: &[u8],
+    clog: &[u8],
+    frames: &[u8],
+) -> Result<(Held, Store), Refusal>
+    ensures { given (value_in no_held result) (changed_in s result) log.now db.now clog.now frames.now ≡ uninstalled 4096 s log.now db.now clog.now frames.now }
 {
-    let no = form::front_no(s, log, db, clog, frames);
-    if no != numbers::ACCEPTED {
-        let none = frames::no_pages();
-        let held = Held {
-            slot: Slot::Empty,
-            touched: none,
-        };
-        let changed = refused(no, s);
-        return Uninstalled { held, changed };
-    }
-    let old = s.held;
-    let touched = old.touched;
-    let pages = touched.pages;
-    let none = Touched { pages, count: 0 };
+    form::check_front(s, log, db, clog, frames)?;
+    let none = Touched {
+        count: 0,
+        ..s.held.touched
+    };
     let held = Held {
         slot: Slot::Empty,
         touched: none,
     };
-    let u = Store { held, ..s };
-    let changed = Changed {
-        number: numbers::ACCEPTED,
-        store: u,
-    };
-    Uninstalled { held: old, changed }
-}
-
-#[derive(Clone, Copy)]
-pub struct AllocatedId {
-    pub id: TransactionId,
-    pub changed: Changed,
+    Ok((s.held, Store { held, ..s }))
 }
 
 // The next id, which then goes up by one, stopping at the maximum.
-pub fn allocate_id(s: Store, log: &[u8], db: &[u8], clog: &[u8], frames: &[u8]) -> AllocatedId
-    ensures { given result.id result.changed log.now db.now clog.now frames.now ≡ id_allocated 4096 s log.now db.now clog.now frames.now }
+pub fn allocate_id(
+    s: Store,
+    log: &[u8],
+    db: &[u8],
+    clog: &[u8],
+    frames: &[u8],
+) -> Result<(TransactionId, Store), Refusal>
+    ensures { given (value_in no_id result) (changed_in s result) log.now db.now clog.now frames.now ≡ id_allocated 4096 s log.now db.now clog.now frames.now }
 {
-    let no = form::front_no(s, log, db, clog, frames);
-    if no != numbers::ACCEPTED {
-        let changed = refused(no, s);
-        return AllocatedId {
-            id: TransactionId(0),
-            changed,
-        };
-    }
-    let id = s.next;
-    let next = table::next_id(id);
-    let u = Store { next, ..s };
-    let changed = Changed {
-        number: numbers::ACCEPTED,
-        store: u,
-    };
-    AllocatedId { id, changed }
-}
-
-#[derive(Clone, Copy)]
-pub struct AllocatedPage {
-    pub page: u32,
-    pub changed: Changed,
+    form::check_front(s, log, db, clog, frames)?;
+    let next = table::next_id(s.next);
+    Ok((s.next, Store { next, ..s }))
 }
 
 // The page count, which then goes up by one.
-pub fn allocate_page(s: Store, log: &[u8], db: &[u8], clog: &[u8], frames: &[u8]) -> AllocatedPage
-    ensures { given result.page result.changed log.now db.now clog.now frames.now ≡ page_allocated 4096 s log.now db.now clog.now frames.now }
+pub fn allocate_page(
+    s: Store,
+    log: &[u8],
+    db: &[u8],
+    clog: &[u8],
+    frames: &[u8],
+) -> Result<(u32, Store), Refusal>
+    ensures { given (value_in 0 result) (changed_in s result) log.now db.now clog.now frames.now ≡ page_allocated 4096 s log.now db.now clog.now frames.now }
 {
-    let no = form::front_no(s, log, db, clog, frames);
-    if no != numbers::ACCEPTED {
-        let changed = refused(no, s);
-        return AllocatedPage { page: 0, changed };
+    form::check_front(s, log, db, clog, frames)?;
+    if numbers::NO_PAGE <= s.pages {
+        return Err(Refusal::BadPage);
     }
-    let page = s.pages;
-    if numbers::NO_PAGE <= page {
-        let changed = refused(numbers::BAD_PAGE, s);
-        return AllocatedPage { page: 0, changed };
-    }
-    let pages = page + 1;
-    let u = Store { pages, ..s };
-    let changed = Changed {
-        number: numbers::ACCEPTED,
-        store: u,
-    };
-    AllocatedPage { page, changed }
+    let pages = s.pages + 1;
+    Ok((s.pages, Store { pages, ..s }))
 }
 
 // ---- the table's entries
 
-#[derive(Clone, Copy)]
-pub struct EntryCount {
-    pub number: u8,
-    pub entries: usize,
-}
-
 // How many entries the table has.
-pub fn entry_count(s: Store, log: &[u8], db: &[u8], clog: &[u8], frames: &[u8]) -> EntryCount
-    ensures { result ≡ entries_counted 4096 s log.now db.now clog.now frames.now }
+pub fn entry_count(
+    s: Store,
+    log: &[u8],
+    db: &[u8],
+    clog: &[u8],
+    frames: &[u8],
+) -> Result<usize, Refusal>
+    ensures { count_told result ≡ entries_counted 4096 s log.now db.now clog.now frames.now }
 {
-    let no = form::front_no(s, log, db, clog, frames);
-    if no != numbers::ACCEPTED {
-        return EntryCount {
-            number: no,
-            entries: 0,
-        };
-    }
-    let t = s.table;
-    EntryCount {
-        number: numbers::ACCEPTED,
-        entries: t.count,
-    }
-}
-
-#[derive(Clone, Copy)]
-pub enum EntryAt {
-    Is(Entry),
-    Nothing,
-}
-
-#[derive(Clone, Copy)]
-pub struct EntryRead {
-    pub number: u8,
-    pub entry: EntryAt,
+    form::check_front(s, log, db, clog, frames)?;
+    Ok(s.table.count)
 }
 
 // The i-th entry by id, from 0.
-pub fn entry_at(s: Store, i: usize, log: &[u8], db: &[u8], clog: &[u8], frames: &[u8]) -> EntryRead
+pub fn entry_at(
+    s: Store,
+    i: usize,
+    log: &[u8],
+    db: &[u8],
+    clog: &[u8],
+    frames: &[u8],
+) -> Result<Option<Entry>, Refusal>
     ensures { entry_told result ≡ entry_read 4096 i s log.now db.now clog.now frames.now }
 {
-    let no = form::front_no(s, log, db, clog, frames);
-    if no != numbers::ACCEPTED {
-        return EntryRead {
-            number: no,
-            entry: EntryAt::Nothing,
-        };
+    form::check_front(s, log, db, clog, frames)?;
+    if s.table.count <= i {
+        return Ok(None);
     }
-    let t = s.table;
-    if t.count <= i {
-        return EntryRead {
-            number: numbers::ACCEPTED,
-            entry: EntryAt::Nothing,
-        };
-    }
-    let e = t.entries[i];
-    EntryRead {
-        number: numbers::ACCEPTED,
-        entry: EntryAt::Is(e),
-    }
+    Ok(Some(s.table.entries[i]))
 }
 
 // ---- pages
 
 // A page that is to be read or written: whether it was resident, its slot, and the store with it resident.
 #[derive(Clone, Copy)]
-pub struct Seat {
-    pub number: u8,
-    pub there: bool,
-    pub slot: usize,
-    pub store: Store,
-}
-
-fn refused_seat(number: u8, s: Store) -> Seat
-    ensures { result ≡ record { number = number; there = true; slot = 0; store = s } }
-{
-    Seat {
-        number,
-        there: true,
-        slot: 0,
-        store: s,
-    }
-}
-
-// The page count, raised past a page.
-fn raised(pages: u32, page: u32) -> u32
-    requires { page < 4294967295 }
-    ensures { result ≡ max pages (page + 1) }
-{
-    let end = page + 1;
-    if pages < end { end } else { pages }
+struct Seat {
+    // No Option with the slot beside it: the slot is needed in both cases.
+    there: bool,
+    slot: usize,
+    store: Store,
 }
 
 // What reading and writing a page have in common. No byte is changed here: a page that is read is filled from the file, one that is written is not.
-fn seat_page(s: Store, page: u32, log: &[u8], db: &[u8], clog: &[u8], frames: &[u8]) -> Seat
-    ensures { result ≡ seat_of 4096 page s log.now db.now clog.now frames.now }
+fn seat_page(
+    s: Store,
+    page: u32,
+    log: &[u8],
+    db: &[u8],
+    clog: &[u8],
+    frames: &[u8],
+) -> Result<Seat, Refusal>
+    ensures { seat_told s result ≡ seat_of 4096 page s log.now db.now clog.now frames.now }
 {
-    let no = form::front_no(s, log, db, clog, frames);
-    if no != numbers::ACCEPTED {
-        return refused_seat(no, s);
-    }
+    form::check_front(s, log, db, clog, frames)?;
     if numbers::NO_PAGE <= page {
-        return refused_seat(numbers::BAD_PAGE, s);
+        return Err(Refusal::BadPage);
     }
-    let f = s.frames;
-    let r = frames::seat(f, frames.len(), page);
-    if r.number != numbers::ACCEPTED {
-        return refused_seat(numbers::FRAMES_FULL, s);
-    }
-    let more = r.frames;
-    let pages = raised(s.pages, page);
-    let u = Store {
+    let seated = frames::seat(s.frames, frames.len(), page)?;
+    let pages = s.pages.max(page + 1);
+    let store = Store {
         pages,
-        frames: more,
+        frames: seated,
         ..s
     };
-    let place = frames::find(f, page);
-    match place {
-        Place::At(slot) => Seat {
-            number: numbers::ACCEPTED,
-            there: true,
-            slot,
-            store: u,
-        },
-        Place::Nowhere => Seat {
-            number: numbers::ACCEPTED,
-            there: false,
-            slot: f.count,
-            store: u,
-        },
-    }
+    // A new page takes the frame after the others.
+    let place = frames::find(s.frames, page);
+    let slot = place.unwrap_or(s.frames.count);
+    Ok(Seat {
+        there: place.is_some(),
+        slot,
+        store,
+    })
 }
 
 // The file's page into a frame, unless the page was there.
@@ -300,12 +187,6 @@ pub fn fill(frames: &mut [u8], there: bool, slot: usize, db: &[u8], len: usize, 
     frames::fill_frame(frames, slot, db, len, page);
 }
 
-#[derive(Clone, Copy)]
-pub struct PageRead {
-    pub bytes: [u8; 4096],
-    pub changed: Changed,
-}
-
 // A page is read: its frame is made resident, from the file or zeros, and copied out.
 pub fn read_page(
     s: Store,
@@ -314,26 +195,13 @@ pub fn read_page(
     db: &[u8],
     clog: &[u8],
     frames: &mut [u8],
-) -> PageRead
-    ensures { given result.bytes result.changed log.now db.now clog.now frames.new ≡ page_read 4096 page s log.now db.now clog.now frames.old }
+) -> Result<([u8; 4096], Store), Refusal>
+    ensures { given (value_in (replicate 4096 0) result) (changed_in s result) log.now db.now clog.now frames.new ≡ page_read 4096 page s log.now db.now clog.now frames.old }
 {
-    let seat = seat_page(s, page, log, db, clog, &frames[..]);
-    let store = seat.store;
-    let changed = Changed {
-        number: seat.number,
-        store,
-    };
-    if seat.number != numbers::ACCEPTED {
-        let zeros = [0; 4096];
-        return PageRead {
-            bytes: zeros,
-            changed,
-        };
-    }
-    let lens = s.lens;
-    fill(frames, seat.there, seat.slot, db, lens.db, page);
+    let seat = seat_page(s, page, log, db, clog, &frames[..])?;
+    fill(frames, seat.there, seat.slot, db, s.lens.db, page);
     let bytes = frames::frame_of(&frames[..], seat.slot);
-    PageRead { bytes, changed }
+    Ok((bytes, seat.store))
 }
 
 // A page is written: its frame is made resident, and the bytes stand in it. The frame is not filled from the file first, since every byte is written.
@@ -345,20 +213,10 @@ pub fn write_page(
     db: &[u8],
     clog: &[u8],
     frames: &mut [u8],
-) -> Changed
-    ensures { outcome result log.now db.now clog.now frames.new ≡ called 4096 (Write page bytes.now) s log.now db.now clog.now frames.old }
+) -> Result<Store, Refusal>
+    ensures { outcome (changed s result) log.now db.now clog.now frames.new ≡ called 4096 (Write page bytes.now) s log.now db.now clog.now frames.old }
 {
-    // Nothing reads this slice: with it the proof knows that the bytes are a page's.
-    let data = &bytes[..];
-    let seat = seat_page(s, page, log, db, clog, &frames[..]);
-    let store = seat.store;
-    let changed = Changed {
-        number: seat.number,
-        store,
-    };
-    if seat.number != numbers::ACCEPTED {
-        return changed;
-    }
+    let seat = seat_page(s, page, log, db, clog, &frames[..])?;
     frames::put_frame(frames, seat.slot, bytes);
-    changed
+    Ok(seat.store)
 }

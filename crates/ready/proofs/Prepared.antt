@@ -1,44 +1,45 @@
 -- Laws of calls made ready: the ways in which a call is refused, and that what was made ready, carried out, cut or counted, is the call. Assumes nothing.
-use Prim.Native.Nat.{ℕ, zero, suc, ◌+◌, ◌-◌, ◌*◌, ◌≤◌}
+use Prim.Native.Nat.{ℕ, zero, suc, ◌+◌, ◌-◌, ◌≤◌}
 use native.Mathlib.Numerals.{add-one}
 use native.Mathlib.Omega.{arith}
 use mathlib.Core.Path.{◌≡◌, refl, sym, ap, ◌∙◌}
 use mathlib.Core.List.{List, []}
-use mathlib.Core.Bool.{false, cond}
+use Rattle.std.specs.Prelude.{Option, Some, None, Result, Ok, Err}
+use Rattle.std.specs.Result.{result_unwrap_or}
 use lib.ListN.{length, take, drop, get_or}
 use lib.Dec.{ltb}
-use lib.Seq.{sets, take_all}
+use lib.Seq.{take_all}
 use borrow.Author.Tests.{le-ltb}
-use Rattle.fields.specs.Answers.{no_id, no_time}
 use Rattle.fields.specs.Files.{File, file_of}
+use Rattle.fields.specs.declared.refusal.Refusal.{Refusal}
+use Rattle.fields.specs.Refusals.{number_of}
+use Rattle.fields.proofs.AnswerLaws.{number-positive}
 use Rattle.fields.proofs.Tests.{passed}
 use Rattle.fields.proofs.FileLaws.{fit-ok}
 use Rattle.frames.specs.Copies.{page_of, with_frame}
 use Rattle.world.proofs.CallLaws.{both_zero}
+use Rattle.world.specs.declared.Lens.{Lens}
 use Rattle.world.specs.World.{Files, World, files_of, lens_of}
 use Rattle.world.specs.Steps.{Step, apply_all}
 use Rattle.world.specs.Calls.{Call, steps, keeps}
 use Rattle.world.specs.Refusals.{or_else, argument_no, room_no, hold_no, call_no, front_no, refuses}
 use Rattle.world.specs.Run.{done, decided, call, call_to, count}
 use Rattle.stores.specs.declared.Plan.{Plan}
-use Rattle.stores.specs.declared.Cut.{Cut}
-use Rattle.stores.specs.declared.Kind.TheVariants.{Nothing}
 use Rattle.stores.specs.Plans.{steps_of, meant}
-use Rattle.stores.specs.Room.{form_no, number_for, Carried, cut_of, carried}
+use Rattle.stores.specs.Room.{form_no, number_for, Carried, Cut, cut, cut_of, carried}
 use Rattle.stores.proofs.PlanLaws.{most-steps}
 use Rattle.stores.proofs.RoomLaws.{length-meant}
 use Rattle.picks.specs.declared.Picked.{Picked}
 use Rattle.picks.specs.Picks.{picked_of}
-use Rattle.plans.specs.Planned.{plan_of, no_counters}
+use Rattle.plans.specs.Planned.{plan_of}
 use Rattle.form.specs.declared.Store.{Store}
-use Rattle.form.specs.Store.{mem_of, world_of, laid_store, outcome, called, called_on}
+use Rattle.form.specs.Store.{mem_of, world_of, laid_store, changed, outcome, called, called_on}
 use Rattle.form.proofs.Arrays.{Sized}
 use Rattle.form.proofs.Front.{front-means, entries-length, touched-length, resident-length, table_same, frames-same, touched-same}
 use Rattle.form.proofs.Called.{quiet_is}
-use Rattle.ready.specs.declared.Ready.{Ready}
-use Rattle.ready.specs.declared.Counted.{Counted}
-use Rattle.ready.specs.Ready.{Prepared, prepared, readied, meta_of, refill_to, refill, framed, idle, plain, with_meta, with_lens, files_to, files_at, carried_out, cut_at, called_to, counted_for, counted_of}
-use Rattle.ready.specs.Inside.{remembered, ready_for}
+use Rattle.ready.specs.declared.Ready as code
+use Rattle.ready.specs.Ready.{Prepared, prepared, Ready, accepted, readied, meta_of, refill_to, refill, framed, idle, plain, with_meta, with_lens, files_to, files_at, carried_out, cut_at, Counted, counted, called_to, counted_for, counted_of}
+use Rattle.ready.specs.Inside.{laid_meta, remembered, ready_for}
 
 -- ---- numbers
 
@@ -47,6 +48,9 @@ first-zero a b e = rw e
 
 first_more : (a b n : ℕ) → a ≡ suc n → or_else a b ≡ suc n
 first_more a b n e = rw e
+
+pub no-zero : (r : Refusal) → number_of r ≡ 0 → ⊥
+no-zero r e = omega (arith, number-positive r)
 
 -- ---- stores carried out: none of them, and all
 
@@ -92,13 +96,13 @@ module _ (P : ℕ) (r : Ready) (frames log db clog : List ℕ) (cut : Cut) (log'
   cut-files k e = cut-is P r frames k log db clog (cut_of cut log' db' clog') e
 
   pub carried-done : (frames' : List ℕ) →
-      cut_of cut log' db' clog' ≡ carried P (drop 0 (meant P frames r.plan)) (133 - 0) (files_of r.store.lens log db clog) →
+      cut_of cut log' db' clog' ≡ cut_at P 133 (readied P r log db clog frames) log db clog →
       frames' ≡ framed P (file_of db' cut.lens.db) r frames →
       outcome (record { number = r.number; store = with_lens cut.lens r.store }) log' db' clog' frames' ≡
       carried_out P (readied P r log db clog frames) log db clog
-  unfolding carried_out readied
+  unfolding carried_out cut_at readied
   carried-done frames' e f =
-      let g = cut-files 133 e ∙ all-is P r frames 133 log db clog (omega arith) in
+      let g = ap (λ (x : Carried). x.files) e ∙ all-is P r frames 133 log db clog (omega arith) in
       rw f (ap (λ (x : Files). outcome (record { number = r.number; store = with_lens (lens_of x) r.store }) x.log.bytes x.db.bytes x.clog.bytes (framed P x.db r frames)) g)
 
 pub cut-done : (P : ℕ) (r : Ready) (frames : List ℕ) (k : ℕ) (log db clog : List ℕ) (cut : Cut) (log' db' clog' : List ℕ) →
@@ -108,17 +112,12 @@ unfolding cut_at readied
 cut-done P r frames k log db clog cut log' db' clog' e =
     ap (λ (x : Files). cut_in r.number x) (cut-files P r frames log db clog cut log' db' clog' k e)
 
+-- the lengths where they stop
+pub cut-lens : (n : Lens) (a : Result Lens Refusal) → (cut n a).lens ≡ result_unwrap_or a n
+cut-lens n (Ok at) = refl
+cut-lens n (Err r) = refl
+
 -- a call with no stores, and the two kinds of accepted calls with stores
-
-pub idle-out : (n : ℕ) (s : Store) (p : Plan) (x : Picked) → p ≡ plan_of Nothing no_id no_time [] no_counters → x ≡ picked_of 64 [] →
-    ◌≡◌ {A = Ready} (record { number = n; plan = p; back = x; meta = false; slot = 0; store = s }) (idle n s)
-unfolding idle
-idle-out n s p x e f = rw (e, f)
-
-pub plain_out : (plan : Plan) (x : Picked) (u : Store) → x ≡ picked_of 64 [] →
-    ◌≡◌ {A = Ready} (record { number = 0; plan = plan; back = x; meta = false; slot = 0; store = u }) (plain plan u)
-unfolding plain
-plain_out plan x u e = rw e
 
 module _ (P : ℕ) (log db clog frames : List ℕ) where
   pub idle-is : (n : ℕ) (s : Store) → readied P (idle n s) log db clog frames ≡ prepared n [] s frames
@@ -147,10 +146,14 @@ pub refill-turn : (P : ℕ) (db : File) (x : Picked) (i : ℕ) (frames a b : Lis
 unfolding refill_to
 refill-turn P db x i frames a b e f = f ∙ rw (e, add-one i)
 
-pub framed-out : (P : ℕ) (db : File) (r : Ready) (frames a b : List ℕ) → a ≡ refill P db r.back frames →
-    b ≡ cond r.meta (sets a (r.slot * P) (meta_of P r.plan.meta)) a → b ≡ framed P db r frames
+pub framed-out : (P : ℕ) (db : File) (r : code.Ready) (frames a b : List ℕ) → a ≡ refill P db r.back frames →
+    b ≡ laid_meta P r.meta r.plan.meta a → b ≡ framed P db (accepted r) frames
 unfolding framed
-framed-out P db r frames a b e f = f ∙ rw e
+framed-out P db r frames a b e f = f ∙ rw e (go r.meta)
+  where
+    go : (x : Option ℕ) → laid_meta P x r.plan.meta (refill P db r.back frames) ≡ framed P db (accepted (record { plan = r.plan; back = r.back; meta = x; store = r.store })) frames
+    go (Some slot) = refl
+    go None = refl
 
 -- ---- the ways out of making ready
 
@@ -190,6 +193,10 @@ module _ (P : ℕ) (c : Call) (s : Store) (log db clog frames : List ℕ) where
     -- refused by those of its own
     pub ready-no : (r : Ready) (n : ℕ) → r ≡ idle (suc n) s → call_no P c here ≡ suc n → readied P r log db clog frames ≡ ready_for P c s log db clog frames
     ready-no r n i e = ap (λ (x : Ready). readied P x log db clog frames) i ∙ idle-is P log db clog frames (suc n) s ∙ refused-ready n (front-call ∙ e)
+
+    pub ready-own : (r : Ready) (n : ℕ) → r ≡ idle n s → n ≡ call_no P c here → (n ≡ 0 → ⊥) → readied P r log db clog frames ≡ ready_for P c s log db clog frames
+    ready-own r zero i e h = absurd (h refl)
+    ready-own r (suc n) i e h = ready-no r n i (sym e)
 
     -- accepted with no stores, and with stores; the frames stay
     pub ready-none : (r : Ready) (u : Store) → r ≡ idle 0 u → steps P c here ≡ [] → u ≡ remembered P c s here → frames ≡ (keeps P c here).frames →
@@ -348,3 +355,38 @@ module _ (P : ℕ) (c : Call) (s : Store) (log db clog frames : List ℕ) where
           some-carried P (length ss) ss f (accepted-room e) ∙ ap (λ (x : List Step). apply_all P x f) (take_all (length ss) ss (omega arith)) in
           rw g
       go (suc n) e = rw (none-carried P 0 (files_of s.lens log db clog))
+
+  -- ---- the answers: what `?` hands on where it is refused, and what comes of the rest
+
+  module _ (e : Refusal) (is : readied P (idle (number_of e) s) log db clog frames ≡ ready_for P c s log db clog frames) where
+    no-stores : prepared (number_of e) [] s frames ≡ ready_for P c s log db clog frames
+    no-stores = sym (idle-is P log db clog frames (number_of e) s) ∙ is
+
+    pub refused-called : (a : Result Store Refusal) → a ≡ Err e → outcome (changed s a) log db clog frames ≡ called P c s log db clog frames
+    unfolding carried_out with_lens
+    refused-called a h =
+        let p = prepared (number_of e) [] s frames in
+        let n : carried_out P p log db clog ≡ outcome (changed s (Err e)) log db clog frames = rw (none-carried P 0 (files_of s.lens log db clog)) in
+        ap (λ (x : Result Store Refusal). outcome (changed s x) log db clog frames) h ∙ sym n ∙ ap (λ (x : Prepared). carried_out P x log db clog) no-stores ∙ ready-called
+
+    pub refused-cut : (k : ℕ) (a : Result Lens Refusal) → a ≡ Err e → cut_of (cut s.lens a) log db clog ≡ called_to P k c s log db clog frames
+    unfolding cut_at
+    refused-cut k a h =
+        let p = prepared (number_of e) [] s frames in
+        let n : cut_at P k p log db clog ≡ cut_of (cut s.lens (Err e)) log db clog = rw (none-carried P k (files_of s.lens log db clog)) in
+        ap (λ (x : Result Lens Refusal). cut_of (cut s.lens x) log db clog) h ∙ sym n ∙ ap (λ (x : Prepared). cut_at P k x log db clog) no-stores ∙ ready-cut k
+
+    pub refused-count : (a : Result ℕ Refusal) → a ≡ Err e → counted a ≡ counted_for P c s log db clog frames
+    unfolding idle plan_of steps_of counted_of
+    refused-count a h = ap counted h ∙ counted-done (idle (number_of e) s) (counted (Err e)) is refl
+
+  module _ (r : code.Ready) (is : readied P (accepted r) log db clog frames ≡ ready_for P c s log db clog frames) where
+    pub accepted-called : (u : Store) (log' db' clog' frames' : List ℕ) →
+        outcome (changed r.store (Ok u)) log' db' clog' frames' ≡ carried_out P (readied P (accepted r) log db clog frames) log db clog →
+        outcome (changed s (Ok u)) log' db' clog' frames' ≡ called P c s log db clog frames
+    accepted-called u log' db' clog' frames' e = e ∙ ap (λ (p : Prepared). carried_out P p log db clog) is ∙ ready-called
+
+    pub accepted-cut : (k : ℕ) (n : Lens) (log' db' clog' : List ℕ) →
+        cut_of (cut r.store.lens (Ok n)) log' db' clog' ≡ cut_at P k (readied P (accepted r) log db clog frames) log db clog →
+        cut_of (cut s.lens (Ok n)) log' db' clog' ≡ called_to P k c s log db clog frames
+    accepted-cut k n log' db' clog' e = e ∙ ap (λ (p : Prepared). cut_at P k p log db clog) is ∙ ready-cut k

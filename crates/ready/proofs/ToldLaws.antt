@@ -6,6 +6,9 @@ use mathlib.Core.List.{List, []}
 use mathlib.Core.Bool.{Bool, true, false, cond}
 use lib.Dec.{ltb}
 use borrow.Author.Tests.{le-ltb}
+use Rattle.std.specs.Prelude.{Option, Result, Err}
+use Rattle.fields.specs.declared.refusal.Refusal.{Refusal}
+use Rattle.fields.specs.Refusals.{number_of}
 use Rattle.world.proofs.CallLaws.{both_zero}
 use Rattle.world.specs.World.{World, files_of}
 use Rattle.world.specs.Steps as world
@@ -14,24 +17,18 @@ use Rattle.world.specs.Calls.{Call, steps, keeps}
 use Rattle.world.specs.Refusals.{call_no, front_no, refuses}
 use Rattle.world.specs.Run.{decided, tellings}
 use Rattle.stores.specs.declared.Telling.{Telling}
-use Rattle.stores.specs.Told.{telling_told, first_told, told_at, told_in}
+use Rattle.stores.specs.Plans.{steps_of, meant}
+use Rattle.stores.specs.Told.{first_told, told_at, told_in}
 use Rattle.stores.proofs.TellLaws.{told-any}
 use Rattle.form.specs.declared.Store.{Store}
 use Rattle.form.specs.Store.{world_of, laid_store}
 use Rattle.form.proofs.Front.{front-means}
-use Rattle.ready.specs.declared.Ready.{Ready}
-use Rattle.ready.specs.declared.Told.{Told}
-use Rattle.ready.specs.Ready.{Prepared, prepared, readied, ToldCall, told_by, told_for, told_of}
+use Rattle.plans.specs.Planned.{plan_of}
+use Rattle.ready.specs.Ready.{Prepared, prepared, Ready, readied, idle, ToldCall, told_by, told_for, told_of}
 use Rattle.ready.specs.Inside.{remembered, ready_for}
 
 abbrev told_call : ℕ → List ℕ → ToldCall
 told_call n vs = record { number = n; values = vs }
-
--- the code's record
-pub told-out : (P k : ℕ) (r : Ready) (t : Telling) → telling_told t ≡ told_in P r.plan k r.store.lens →
-    told_by (record { number = r.number; telling = t }) ≡ told_of P k r
-unfolding told_by told_of
-told-out P k r t e = ap (told_call r.number) e
 
 -- of no stores nothing is told
 none_told : (k : ℕ) → told_at k [] ≡ []
@@ -79,10 +76,17 @@ module _ (P : ℕ) (big : 36 ≤ P) (k : ℕ) (c : Call) (s : Store) (log db clo
       go zero e = rw (short-log e)
       go (suc n) e = rw (none_told k, same-either (ltb 16777216 s.lens.log))
 
-  pub told-done : (r : Ready) (t : Told) → readied P r log db clog frames ≡ ready_for P c s log db clog frames → told_by t ≡ told_of P k r →
+  pub told-done : (r : Ready) (t : Result (Option Telling) Refusal) → readied P r log db clog frames ≡ ready_for P c s log db clog frames → told_by t ≡ told_of P k r →
       told_by t ≡ told_for P k c s log db clog frames
   unfolding told_of told_for readied ready_for
   told-done r t e q =
       q
       ∙ ap (told_call r.number) (plan-told r ∙ ap values_in e ∙ ready-told)
       ∙ ap (λ (p : Prepared). told_call p.number (told_at k (tellings P c now))) e
+
+  -- refused: what `?` hands on
+  pub refused-told : (e : Refusal) (a : Result (Option Telling) Refusal) → readied P (idle (number_of e) s) log db clog frames ≡ ready_for P c s log db clog frames →
+      a ≡ Err e → told_by a ≡ told_for P k c s log db clog frames
+  unfolding told_by told_of told_in idle plan_of meant steps_of tell_all
+  refused-told e a is h =
+      told-done (idle (number_of e) s) a is (ap told_by h ∙ ap (told_call (number_of e)) (rw (none_told k, same-either (ltb 16777216 s.lens.log))))

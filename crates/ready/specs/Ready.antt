@@ -1,6 +1,8 @@
 -- A call, made ready: its number, its stores, and what it leaves in memory and in the frame buffer; then carried out, cut at a store, counted or told. A refused
 -- call is made ready as one with no stores that leaves everything as it was. P is the page size. Assumes nothing.
-use Rattle.std.specs.Prelude.{ℕ, zero, suc, min, List, [], cond, true, false, length, get_or}
+use Rattle.std.specs.Prelude.{ℕ, zero, suc, min, List, [], Bool, cond, true, false, length, get_or, Option, Some, None, Result, Ok, Err}
+use Rattle.fields.specs.declared.refusal.Refusal.{Refusal}
+use Rattle.fields.specs.Refusals.{number_of}
 use Rattle.fields.specs.Answers.{no_id, no_time}
 use Rattle.fields.specs.Files.{File}
 use Rattle.meta.specs.declared.Counters.{Counters}
@@ -16,15 +18,14 @@ use Rattle.picks.specs.declared.Picked.{Picked}
 use Rattle.picks.specs.Picks.{picked_of}
 use Rattle.stores.specs.declared.Plan.{Plan}
 use Rattle.stores.specs.declared.Kind.TheVariants.{Nothing}
+use Rattle.stores.specs.declared.Telling.{Telling}
 use Rattle.stores.specs.Plans.{steps_of, meant}
 use Rattle.stores.specs.Room.{Carried, carried}
 use Rattle.stores.specs.Told.{telling_told, told_at, told_in}
 use Rattle.plans.specs.Planned.{plan_of, no_counters}
 use Rattle.form.specs.declared.Store.{Store}
 use Rattle.form.specs.Store.{world_of, Outcome, outcome}
-use Rattle.ready.specs.declared.Ready.{Ready}
-use Rattle.ready.specs.declared.Counted.{Counted}
-use Rattle.ready.specs.declared.Told.{Told}
+use Rattle.ready.specs.declared.Ready as code
 
 -- ---- made ready
 
@@ -39,6 +40,27 @@ abbrev pub prepared : ℕ → List Step → Store → List ℕ → Prepared
 prepared n ss s frames = record { number = n; steps = ss; store = s; frames = frames }
 
 -- ---- as a value of the code, on these buffers
+
+-- the number; the stores; the pages that get their bytes back; whether page 0's frame is written, and its slot; the store
+pub record Ready : Type 0 where
+  pub number : ℕ
+  pub plan : Plan
+  pub back : Picked
+  pub meta : Bool
+  pub slot : ℕ
+  pub store : Store
+
+abbrev pub has_slot : Option ℕ → Bool
+has_slot (Some slot) = true
+has_slot None = false
+
+abbrev pub slot_in : Option ℕ → ℕ
+slot_in (Some slot) = slot
+slot_in None = 0
+
+-- what the code makes ready is an accepted call
+abbrev pub accepted : code.Ready → Ready
+accepted r = record { number = 0; plan = r.plan; back = r.back; meta = has_slot r.meta; slot = slot_in r.meta; store = r.store }
 
 abbrev pub meta_of : ℕ → Counters → List ℕ
 meta_of P m = meta_page P m.next.0 m.time.0 m.mark.0
@@ -78,6 +100,11 @@ plain plan u = record { number = 0; plan = plan; back = picked_of 64 []; meta = 
 unfoldable pub with_meta : Plan → Picked → ℕ → Store → Ready
 with_meta plan back slot u = record { number = 0; plan = plan; back = back; meta = true; slot = slot; store = u }
 
+-- what making a call on the store s ready answers
+abbrev pub ready_of : Store → Result code.Ready Refusal → Ready
+ready_of s (Ok r) = accepted r
+ready_of s (Err e) = idle (number_of e) s
+
 -- ---- carried out, cut, counted
 
 unfoldable pub with_lens : Lens → Store → Store
@@ -105,6 +132,15 @@ carried_out P p log db clog =
 unfoldable pub cut_at : ℕ → ℕ → Prepared → List ℕ → List ℕ → List ℕ → Carried
 cut_at P k p log db clog = record { number = p.number; files = files_at P k p log db clog }
 
+-- how many stores a call has; a refused one has none
+pub record Counted : Type 0 where
+  pub number : ℕ
+  pub stores : ℕ
+
+abbrev pub counted : Result ℕ Refusal → Counted
+counted (Ok n) = record { number = 0; stores = n }
+counted (Err r) = record { number = number_of r; stores = 0 }
+
 -- a call cut at its k-th store, and how many stores it has
 unfoldable pub called_to : ℕ → ℕ → Call → Store → List ℕ → List ℕ → List ℕ → List ℕ → Carried
 called_to P k c s log db clog frames =
@@ -127,8 +163,9 @@ pub record ToldCall : Type 0 where
   pub number : ℕ
   pub values : List ℕ
 
-unfoldable pub told_by : Told → ToldCall
-told_by t = record { number = t.number; values = telling_told t.telling }
+unfoldable pub told_by : Result (Option Telling) Refusal → ToldCall
+told_by (Ok t) = record { number = 0; values = telling_told t }
+told_by (Err r) = record { number = number_of r; values = [] }
 
 -- store k of a call, from 1 on; nothing for 0, past the last store, and where the call is refused
 unfoldable pub told_for : ℕ → ℕ → Call → Store → List ℕ → List ℕ → List ℕ → List ℕ → ToldCall

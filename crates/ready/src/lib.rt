@@ -1,88 +1,62 @@
-// A call with stores, made ready and then carried out. Making ready changes nothing: it gives the call's number, its stores as a plan, and the store after it.
+// A call with stores, made ready and then carried out. Making ready changes nothing: it refuses the call, or gives its stores as a plan, and the store after it.
 // Then the call is carried out, or cut at a store as if power went there, or its stores are counted or told. What is here serves every such call. Every public
 // function is total: its contract is one equation, which says the answer, the store and every byte of the buffers.
 #![tactic(auto)]
 
-ghost use Rattle.std.specs.Prelude.{◌≡◌, cond, ◌*◌};
-ghost use Rattle.std.proofs.lemmas.List.Edits.{sets};
+ghost use Rattle.std.specs.Prelude.{◌≡◌, Ok};
 ghost use Rattle.fields.specs.Files.{file_of};
-ghost use Rattle.stores.specs.Room.{cut_of};
-ghost use Rattle.form.specs.Store.{outcome};
-ghost use Rattle.ready.specs.Ready.{readied, idle, plain, with_meta, meta_of, refill, carried_out, cut_at, counted_of, told_by, told_of};
+ghost use Rattle.stores.specs.Room.{cut, cut_of};
+ghost use Rattle.form.specs.Store.{changed, outcome};
+ghost use Rattle.ready.specs.Ready.{accepted, readied, idle, plain, with_meta, refill, carried_out, cut_at, counted, counted_of, told_by, told_of};
+ghost use Rattle.ready.specs.Inside.{laid_meta};
 
 use fields::numbers;
-use form::{Changed, Store};
+use form::Store;
 use meta::Counters;
 use picks::Picked;
-use stores::{Cut, Plan, Telling};
+use stores::{Plan, Telling};
+use world::Lens;
 
 // The most stores that a plan has.
 const MOST: usize = 133;
 
-// What a call would do: its number; its stores; the pages whose frames get the file's bytes back; whether page 0's frame gets the plan's counters, and the slot
-// of that frame; the store after it but for the lengths of the files. A refused call has no stores and the old store.
+// What an accepted call would do: its stores; the pages whose frames get the file's bytes back; the slot of page 0's frame, where that gets the plan's counters;
+// the store after it but for the lengths of the files.
 #[derive(Clone, Copy)]
 pub struct Ready {
-    pub number: u8,
     pub plan: Plan,
     pub back: Picked,
-    pub meta: bool,
-    pub slot: usize,
+    pub meta: Option<usize>,
     pub store: Store,
 }
 
-// How many stores a call has; a refused one has none.
-#[derive(Clone, Copy)]
-pub struct Counted {
-    pub number: u8,
-    pub stores: usize,
-}
-
-// A call's number, and what is told of its store k, from 1 on; nothing for 0, past the last store, and where the call is refused.
-#[derive(Clone, Copy)]
-pub struct Told {
-    pub number: u8,
-    pub telling: Telling,
-}
-
-// A call that has no stores: refused, or with nothing to do but for the store that it leaves.
-pub fn nothing(number: u8, s: Store) -> Ready
-    ensures { result ≡ idle number s }
+// A call with nothing to do but for the store that it leaves.
+pub fn nothing(s: Store) -> Ready
+    ensures { accepted result ≡ idle 0 s }
 {
-    Ready {
-        number,
-        plan: plans::no_plan(),
-        back: picks::none(),
-        meta: false,
-        slot: 0,
-        store: s,
-    }
+    plain_call(plans::no_plan(), s)
 }
 
-// An accepted call that leaves the frames as they are.
+// A call that leaves the frames as they are.
 pub fn plain_call(plan: Plan, u: Store) -> Ready
-    ensures { result ≡ plain plan u }
+    ensures { accepted result ≡ plain plan u }
 {
     Ready {
-        number: numbers::ACCEPTED,
         plan,
         back: picks::none(),
-        meta: false,
-        slot: 0,
+        meta: None,
         store: u,
     }
 }
 
-// An accepted call that gives picked pages the file's bytes back, and writes page 0's frame, which has this slot.
+// A call that gives picked pages the file's bytes back, and writes page 0's frame, which has this slot.
 pub fn meta_call(plan: Plan, back: Picked, slot: usize, u: Store) -> Ready
-    ensures { result ≡ with_meta plan back slot u }
+    ensures { accepted result ≡ with_meta plan back slot u }
 {
     Ready {
-        number: numbers::ACCEPTED,
         plan,
         back,
-        meta: true,
-        slot,
+        meta: Some(slot),
         store: u,
     }
 }
@@ -91,51 +65,39 @@ pub fn meta_call(plan: Plan, back: Picked, slot: usize, u: Store) -> Ready
 fn give_back(x: Picked, db: &[u8], len: usize, frames: &mut [u8])
     ensures { frames.new ≡ refill 4096 (file_of db.now len) x frames.old }
 {
-    let n = fields::smaller(x.n, 64);
-    let mut i = 0;
-    while i < n {
+    for i in 0..x.n.min(64) {
         frames::fill_frame(frames, x.slots[i], db, len, x.pages[i]);
-        i += 1;
     }
 }
 
-// The counters into a frame. Whether the slot lies past the buffer's end is tested before its place is worked out, which could overflow.
-fn lay_meta(frames: &mut [u8], meta: bool, slot: usize, m: Counters)
-    ensures { frames.new ≡ cond meta (sets frames.old (slot * 4096) (meta_of 4096 m)) frames.old }
+// The counters into a frame, where there is one to write. Whether the slot lies past the buffer's end is tested before its place is worked out, which could
+// overflow.
+fn lay_meta(frames: &mut [u8], meta: Option<usize>, m: Counters)
+    ensures { frames.new ≡ laid_meta 4096 meta m frames.old }
 {
-    if !meta {
+    let Some(slot) = meta else {
         return;
-    }
+    };
     if frames.len() / numbers::PAGE_SIZE < slot {
         return;
     }
     meta::put_meta(frames, slot * numbers::PAGE_SIZE, m);
 }
 
-// The stores first, while the frames are as they were; then the frames, from the file that they leave.
+// The stores first, while the frames are as they were; then the frames, from the file that they leave. Where stores are refused, the files stay.
 pub fn carry_out(
     r: Ready,
     log: &mut [u8],
     db: &mut [u8],
     clog: &mut [u8],
     frames: &mut [u8],
-) -> Changed
-    ensures { outcome result log.new db.new clog.new frames.new ≡ carried_out 4096 (readied 4096 r log.old db.old clog.old frames.old) log.old db.old clog.old }
+) -> Store
+    ensures { outcome (changed r.store (Ok result)) log.new db.new clog.new frames.new ≡ carried_out 4096 (readied 4096 (accepted r) log.old db.old clog.old frames.old) log.old db.old clog.old }
 {
-    let plan = r.plan;
-    let store = r.store;
-    let lens = store.lens;
-    let cut = stores::carry_on(plan, 0, MOST, lens, log, db, clog, &frames[..]);
-    let end = cut.lens;
-    let back = r.back;
-    give_back(back, &db[..], end.db, frames);
-    let m = plan.meta;
-    lay_meta(frames, r.meta, r.slot, m);
-    let u = Store { lens: end, ..store };
-    Changed {
-        number: r.number,
-        store: u,
-    }
+    let lens = cut_at(r, MOST, log, db, clog, &frames[..]);
+    give_back(r.back, &db[..], lens.db, frames);
+    lay_meta(frames, r.meta, r.plan.meta);
+    Store { lens, ..r.store }
 }
 
 // As if power went after the first k stores: what memory would hold is gone, so the files alone are left.
@@ -146,41 +108,22 @@ pub fn cut_at(
     db: &mut [u8],
     clog: &mut [u8],
     frames: &[u8],
-) -> Cut
-    ensures { cut_of result log.new db.new clog.new ≡ cut_at 4096 k (readied 4096 r log.old db.old clog.old frames.now) log.old db.old clog.old }
+) -> Lens
+    ensures { cut_of (cut r.store.lens (Ok result)) log.new db.new clog.new ≡ cut_at 4096 k (readied 4096 (accepted r) log.old db.old clog.old frames.now) log.old db.old clog.old }
 {
-    let plan = r.plan;
-    let store = r.store;
-    let lens = store.lens;
-    let cut = stores::carry_on(plan, 0, k, lens, log, db, clog, frames);
-    let end = cut.lens;
-    Cut {
-        number: r.number,
-        lens: end,
-    }
+    let lens = r.store.lens;
+    stores::carry_on(r.plan, 0, k, lens, log, db, clog, frames).unwrap_or(lens)
 }
 
-pub fn count_of(r: Ready) -> Counted
-    ensures { result ≡ counted_of r }
+pub fn count_of(r: Ready) -> usize
+    ensures { counted (Ok result) ≡ counted_of (accepted r) }
 {
-    let plan = r.plan;
-    let stores = stores::count(plan);
-    Counted {
-        number: r.number,
-        stores,
-    }
+    stores::count(r.plan)
 }
 
 // The lengths are those before the call, since making ready changes none of them.
-pub fn told_at(r: Ready, k: usize) -> Told
-    ensures { told_by result ≡ told_of 4096 k r }
+pub fn told_at(r: Ready, k: usize) -> Option<Telling>
+    ensures { told_by (Ok result) ≡ told_of 4096 k (accepted r) }
 {
-    let plan = r.plan;
-    let store = r.store;
-    let lens = store.lens;
-    let telling = stores::tell(plan, k, lens);
-    Told {
-        number: r.number,
-        telling,
-    }
+    stores::tell(r.plan, k, r.store.lens)
 }

@@ -43,7 +43,7 @@ fn lay_page(db: &mut [u8], len: usize, page: u32, bytes: &[u8]) -> usize
         return len;
     }
     let at = page as usize * numbers::PAGE_SIZE;
-    let end = fields::larger(len, at + n);
+    let end = len.max(at + n);
     fields::zero_fill(db, len, at);
     if db.len() < at {
         return end;
@@ -61,6 +61,7 @@ pub fn lay_images(log: &[u8], end: usize, db: &mut [u8], len: usize) -> usize
     }
     let mut at = wal::start_of(log, end);
     let mut n = len;
+    // No `for`: each turn goes on by what it has read.
     while at < end {
         let r = wal::read_record(log, end, at);
         let bytes = wal::image(log, end, at);

@@ -20,29 +20,19 @@
 // log, database and clog, each with a sum over its bytes.
 #![tactic(auto)]
 
-ghost use Rattle.std.specs.Prelude.{◌≤◌, length};
-
-use fields::{Answer, CommitTime, TransactionId, numbers};
-use form::{Changed, Held, Store};
+use fields::{CommitTime, Refusal, TransactionId, numbers};
+use form::Store;
 use frames::Transaction;
 use meta::Counters;
-use opening::{Opened, Verdict};
-use quiet::EntryAt;
-use std::fs::File;
+use opening::Unopened;
 use std::io;
-use std::io::Read;
-use std::rt::Files;
-use stores::Cut;
 use table::{Entry, Status};
 use world::{Lens, Slot};
 
 const RECORD: usize = 24;
 
-const NO_STORE: u8 = 15;
-
-const NO_TRANSACTION: u8 = 16;
-
-const NO_OPCODE: u8 = 17;
+// The numbers below this one are those of 32 bits.
+const WORD: u64 = 4294967296;
 
 #[derive(Clone, Copy)]
 struct Command {
@@ -51,244 +41,146 @@ struct Command {
     b: u64,
 }
 
-// The files' lengths are the store's, and stay there when it is dropped. The cut is 0, or one more than the store that the next call is cut at.
-#[derive(Clone, Copy)]
-struct State {
-    live: bool,
-    cut: usize,
-    aside: Held,
-    store: Store,
+#[derive(Drop)]
+struct Buffers {
+    log: [u8; 32768],
+    db: [u8; 32768],
+    clog: [u8; 256],
+    frames: [u8; 32768],
 }
 
-// What a command answers, and what it leaves.
+// A store, or the lengths that the files have without one.
 #[derive(Clone, Copy)]
-struct Done {
-    number: u8,
-    gave: u64,
-    state: State,
+enum Place {
+    Open(Store),
+    Closed(Lens),
+}
+
+#[derive(Clone, Copy)]
+struct State {
+    place: Place,
+    // The transaction that is set aside.
+    aside: Option<Transaction>,
+    // The store that the next call is cut at.
+    cut: Option<usize>,
+}
+
+// Why a command is not carried out: its call is refused, or a reason of the program's own.
+#[derive(Clone, Copy)]
+enum Denied {
+    Refused(Refusal),
+    NoStore,
+    NoTransaction,
+    NoOpcode,
+}
+
+impl Denied {
+    fn number(self) -> u8 {
+        match self {
+            Denied::Refused(refusal) => refusal.number(),
+            Denied::NoStore => 15,
+            Denied::NoTransaction => 16,
+            Denied::NoOpcode => 17,
+        }
+    }
+}
+
+impl From<Refusal> for Denied {
+    fn from(refusal: Refusal) -> Self {
+        Denied::Refused(refusal)
+    }
 }
 
 // A page number or a version is the low half of an argument.
 fn low(n: u64) -> u32 {
-    (n % 4294967296) as u32
+    (n % WORD) as u32
 }
 
 // ---- what is written
 
-fn word(rt: &impl Print, text: &[u8]) -> io::Result<()> {
-    rt.write_all(text)
-}
-
-fn number(rt: &impl Print, n: u64) -> io::Result<()> {
-    print!(rt; " {n}")
-}
-
 // One step of a sum that tells the order, too.
 fn mixed(total: u64, n: u64) -> u64 {
-    (total % 4294967296 * 31 + n % 4294967296) % 4294967296
+    (total % WORD * 31 + n % WORD) % WORD
 }
 
-fn wide(b: u8) -> u64 {
-    b as u64
-}
-
-fn sum(s: &[u8]) -> u64 {
+fn sum(bytes: &[u8]) -> u64 {
     let mut total: u64 = 7;
-    let mut i = 0;
-    while i < s.len() {
-        total = mixed(total, wide(s[i]));
-        i += 1;
+    for byte in bytes {
+        total = mixed(total, *byte as u64);
     }
     total
 }
 
 // The file is what the buffer holds up to the length.
-fn show_file(rt: &impl Print, file: &[u8], len: usize) -> io::Result<()> {
-    let end = fields::smaller(len, file.len());
-    number(rt, len as u64)?;
-    number(rt, sum(&file[..end]))
-}
-
-fn tag_of(s: Status) -> u64 {
-    match s {
-        Status::Active => 1,
-        Status::Committed(_) => 2,
-        Status::Aborted => 3,
-    }
-}
-
-fn time_of(s: Status) -> u64 {
-    match s {
-        Status::Active => 0,
-        Status::Committed(time) => time.0,
-        Status::Aborted => 0,
-    }
+fn file_sum(file: &[u8], len: usize) -> u64 {
+    sum(&file[..len.min(file.len())])
 }
 
 fn entry_mixed(total: u64, e: Entry) -> u64 {
-    let s = e.status;
-    let with_id = mixed(total, e.id.0);
-    let with_tag = mixed(with_id, tag_of(s));
-    mixed(with_tag, time_of(s))
+    let (tag, time) = match e.status {
+        Status::Active => (1, 0),
+        Status::Committed(time) => (2, time.0),
+        Status::Aborted => (3, 0),
+    };
+    mixed(mixed(mixed(total, e.id.0), tag), time)
 }
 
-fn place_mixed(total: u64, e: EntryAt) -> u64 {
-    match e {
-        EntryAt::Is(found) => entry_mixed(total, found),
-        EntryAt::Nothing => total,
-    }
-}
-
-fn show_entries(
-    rt: &impl Print,
-    s: Store,
-    log: &[u8],
-    db: &[u8],
-    clog: &[u8],
-    frames: &[u8],
-) -> io::Result<()> {
-    let n = quiet::entry_count(s, log, db, clog, frames);
+fn show_entries(rt: &impl Print, s: Store, b: &Buffers) -> io::Result<()> {
+    let n = quiet::entry_count(s, &b.log, &b.db, &b.clog, &b.frames).unwrap_or(0);
     let mut total: u64 = 7;
-    let mut i = 0;
-    while i < n.entries {
-        let r = quiet::entry_at(s, i, log, db, clog, frames);
-        let e = r.entry;
-        total = place_mixed(total, e);
-        i += 1;
+    for i in 0..n {
+        if let Ok(Some(e)) = quiet::entry_at(s, i, &b.log, &b.db, &b.clog, &b.frames) {
+            total = entry_mixed(total, e);
+        }
     }
-    number(rt, n.entries as u64)?;
-    number(rt, total)
+    print!(rt; " {n} {total}")
 }
 
-fn show_held(rt: &impl Print, h: Held) -> io::Result<()> {
-    let slot = h.slot;
-    let touched = h.touched;
-    match slot {
-        Slot::Installed(id) => number(rt, id.0)?,
-        Slot::Empty => word(rt, b" -")?,
+fn show_store(rt: &impl Print, s: Store, b: &Buffers) -> io::Result<()> {
+    print!(rt; " | {} {} {} {}", s.pages, s.next.0, s.time.0, s.mark.0)?;
+    show_entries(rt, s, b)?;
+    match s.held.slot {
+        Slot::Installed(id) => print!(rt; " {}", id.0)?,
+        Slot::Empty => print!(rt; " -")?,
     }
-    number(rt, touched.count as u64)
+    print!(rt; " {}", s.held.touched.count)
 }
 
-fn show_store(
-    rt: &impl Print,
-    s: Store,
-    log: &[u8],
-    db: &[u8],
-    clog: &[u8],
-    frames: &[u8],
-) -> io::Result<()> {
-    let held = s.held;
-    word(rt, b" |")?;
-    number(rt, s.pages as u64)?;
-    number(rt, s.next.0)?;
-    number(rt, s.time.0)?;
-    number(rt, s.mark.0)?;
-    show_entries(rt, s, log, db, clog, frames)?;
-    show_held(rt, held)
+fn show_files(rt: &impl Print, lens: Lens, b: &Buffers) -> io::Result<()> {
+    let log = file_sum(&b.log, lens.log);
+    let db = file_sum(&b.db, lens.db);
+    let clog = file_sum(&b.clog, lens.clog);
+    println!(rt;
+        " | {} {log} {} {db} {} {clog}",
+        lens.log, lens.db, lens.clog
+    )
 }
 
-fn show_answer(rt: &impl Print, op: u64, no: u8, gave: u64) -> io::Result<()> {
-    print!(rt; "{op}")?;
-    number(rt, no as u64)?;
-    number(rt, gave)
-}
-
-fn show_files(rt: &impl Print, lens: Lens, log: &[u8], db: &[u8], clog: &[u8]) -> io::Result<()> {
-    word(rt, b" |")?;
-    show_file(rt, log, lens.log)?;
-    show_file(rt, db, lens.db)?;
-    show_file(rt, clog, lens.clog)?;
-    word(rt, b"\n")
-}
-
-fn show_state(
-    rt: &impl Print,
-    s: State,
-    log: &[u8],
-    db: &[u8],
-    clog: &[u8],
-    frames: &[u8],
-) -> io::Result<()> {
-    let store = s.store;
-    let lens = store.lens;
-    if s.live {
-        show_store(rt, store, log, db, clog, frames)?;
+fn show_place(rt: &impl Print, place: Place, b: &Buffers) -> io::Result<()> {
+    if let Place::Open(s) = place {
+        show_store(rt, s, b)?;
     }
-    show_files(rt, lens, log, db, clog)
+    show_files(rt, lens_of(place), b)
 }
 
 // ---- states
 
-fn nothing_held() -> Held {
-    let touched = frames::no_pages();
-    Held {
-        slot: Slot::Empty,
-        touched,
-    }
-}
-
-// No store, and files of these lengths. Nothing but the lengths is ever looked at.
-fn closed(lens: Lens) -> Store {
-    let held = nothing_held();
-    let table = table::empty();
-    let frames = frames::no_frames();
-    Store {
-        lens,
-        pages: 0,
-        next: TransactionId(1),
-        time: CommitTime(1),
-        mark: TransactionId(0),
-        table,
-        frames,
-        held,
-    }
-}
-
 fn fresh() -> State {
-    let lens = Lens {
-        log: 0,
-        db: 0,
-        clog: 0,
-    };
-    let aside = nothing_held();
-    let store = closed(lens);
     State {
-        live: false,
-        cut: 0,
-        aside,
-        store,
+        place: Place::Closed(Lens {
+            log: 0,
+            db: 0,
+            clog: 0,
+        }),
+        aside: None,
+        cut: None,
     }
 }
 
-// A command that leaves everything as it was.
-fn nothing_done(number: u8, state: State) -> Done {
-    Done {
-        number,
-        gave: 0,
-        state,
-    }
-}
-
-// The store is gone.
-fn dropped(number: u8, s: State, lens: Lens) -> Done {
-    let store = closed(lens);
-    let state = State {
-        live: false,
-        store,
-        ..s
-    };
-    nothing_done(number, state)
-}
-
-// A call on a live store, and what it handed out.
-fn called(s: State, gave: u64, c: Changed) -> Done {
-    let store = c.store;
-    let state = State { store, ..s };
-    Done {
-        number: c.number,
-        gave,
-        state,
+fn lens_of(place: Place) -> Lens {
+    match place {
+        Place::Open(s) => s.lens,
+        Place::Closed(lens) => lens,
     }
 }
 
@@ -296,51 +188,30 @@ fn called(s: State, gave: u64, c: Changed) -> Done {
 
 fn seeded(seed: u64) -> [u8; 4096] {
     let mut page = [0u8; 4096];
-    let mut i: usize = 0;
-    while i < 4096 {
+    for (i, byte) in page.iter_mut().enumerate() {
         let n = seed % 256 + 7 * i as u64 + 13 * (i / 256) as u64;
-        page[i] = (n % 256) as u8;
-        i += 1;
+        *byte = (n % 256) as u8;
     }
     page
 }
 
 // Bytes to a file's end, and its length then; what does not fit is left out whole.
 fn added(file: &mut [u8], len: usize, bytes: &[u8]) -> usize {
-    if file.len() < len {
-        return len;
-    }
-    if file.len() - len < bytes.len() {
+    if file.len() < len || file.len() - len < bytes.len() {
         return len;
     }
     fields::lay(file, len, bytes);
     len + bytes.len()
 }
 
-fn word_added(file: &mut [u8], len: usize, a: u64, b: u64) -> usize {
-    let mut bytes = [0u8; 8];
-    fields::put_u64(&mut bytes, 0, b);
-    let all = &bytes[..];
-    let n = fields::smaller(a as usize, all.len());
-    added(file, len, &all[..n])
-}
-
-fn page_added(file: &mut [u8], len: usize, seed: u64) -> usize {
-    let page = seeded(seed);
-    added(file, len, &page[..])
+fn word_added(file: &mut [u8], len: usize, count: u64, word: u64) -> usize {
+    let bytes = word.to_le_bytes();
+    added(file, len, &bytes[..(count as usize).min(8)])
 }
 
 // The length after a write to the log; a refusal leaves it.
-fn after(len: usize, a: Answer) -> usize {
-    match a {
-        Answer::Accepted(n) => n,
-        Answer::Refused(_) => len,
-    }
-}
-
 fn image_added(log: &mut [u8], len: usize, page: u32, seed: u64) -> usize {
-    let bytes = seeded(seed);
-    after(len, wal::append_page(log, len, page, &bytes))
+    wal::append_page(log, len, page, &seeded(seed)).unwrap_or(len)
 }
 
 fn meta_added(db: &mut [u8], len: usize, next: u64, time: u64) -> usize {
@@ -356,212 +227,127 @@ fn meta_added(db: &mut [u8], len: usize, next: u64, time: u64) -> usize {
 
 // Where there is no page 0 nothing is marked.
 fn marked(db: &mut [u8], len: usize, mark: u64, version: u32) -> usize {
-    if len < numbers::PAGE_SIZE {
-        return len;
+    if numbers::PAGE_SIZE <= len {
+        fields::put_u64(db, 24, mark);
+        fields::put_u32(db, 32, version);
     }
-    fields::put_u64(db, 24, mark);
-    fields::put_u32(db, 32, version);
     len
 }
 
-fn log_built(log: &mut [u8], len: usize, c: Command) -> usize {
-    let op = c.op;
-    match op {
-        0 => 0,
-        1 => word_added(log, len, c.a, c.b),
-        5 => image_added(log, len, low(c.a), c.b),
-        _ => len,
+// The lengths after one of the commands 1 to 7.
+fn built(old: Lens, c: Command, b: &mut Buffers) -> Lens {
+    let Lens {
+        mut log,
+        mut db,
+        mut clog,
+    } = old;
+    match c.op {
+        1 => log = word_added(&mut b.log, log, c.a, c.b),
+        2 => db = word_added(&mut b.db, db, c.a, c.b),
+        3 => clog = word_added(&mut b.clog, clog, c.a, c.b),
+        4 => db = added(&mut b.db, db, &seeded(c.a)),
+        5 => log = image_added(&mut b.log, log, low(c.a), c.b),
+        6 => db = meta_added(&mut b.db, db, c.a, c.b),
+        _ => db = marked(&mut b.db, db, c.a, low(c.b)),
     }
-}
-
-fn db_built(db: &mut [u8], len: usize, c: Command) -> usize {
-    let op = c.op;
-    match op {
-        0 => 0,
-        2 => word_added(db, len, c.a, c.b),
-        4 => page_added(db, len, c.a),
-        6 => meta_added(db, len, c.a, c.b),
-        7 => marked(db, len, c.a, low(c.b)),
-        _ => len,
-    }
-}
-
-fn clog_built(clog: &mut [u8], len: usize, c: Command) -> usize {
-    let op = c.op;
-    match op {
-        0 => 0,
-        3 => word_added(clog, len, c.a, c.b),
-        _ => len,
-    }
-}
-
-fn lens_built(old: Lens, c: Command, log: &mut [u8], db: &mut [u8], clog: &mut [u8]) -> Lens {
-    Lens {
-        log: log_built(log, old.log, c),
-        db: db_built(db, old.db, c),
-        clog: clog_built(clog, old.clog, c),
-    }
-}
-
-fn built(s: State, c: Command, log: &mut [u8], db: &mut [u8], clog: &mut [u8]) -> Done {
-    let store = s.store;
-    let old = store.lens;
-    let lens = lens_built(old, c, log, db, clog);
-    if c.op == 0 {
-        let none = fresh();
-        return nothing_done(numbers::ACCEPTED, none);
-    }
-    dropped(numbers::ACCEPTED, s, lens)
+    Lens { log, db, clog }
 }
 
 // ---- opening
 
-fn number_of(v: Verdict) -> u8 {
-    match v {
-        Verdict::Accepted(_) => numbers::ACCEPTED,
-        Verdict::Refused(number) => number,
-        Verdict::Torn(_) => numbers::TORN,
-        Verdict::Unknown(_) => numbers::UNKNOWN_TAG,
+// Why there is no store, and the database's length then: an opening that found a bad record has the images laid.
+fn stopped(why: Unopened, db: usize) -> (Refusal, usize) {
+    match why {
+        Unopened::Refused(refusal) => (refusal, db),
+        Unopened::Torn(n) => (Refusal::Torn, n),
+        Unopened::Unknown(n) => (Refusal::UnknownTag, n),
     }
 }
 
-// The database's length after an opening that found a bad record has the images laid.
-fn laid_to(len: usize, v: Verdict) -> usize {
-    match v {
-        Verdict::Accepted(n) => n,
-        Verdict::Refused(_) => len,
-        Verdict::Torn(n) => n,
-        Verdict::Unknown(n) => n,
+fn opened(s: &mut State, b: &mut Buffers) -> Result<u64, Denied> {
+    let lens = lens_of(s.place);
+    match opens::open(lens, &mut b.log, &mut b.db, &mut b.clog, &b.frames) {
+        Ok(store) => {
+            s.place = Place::Open(store);
+            Ok(0)
+        }
+        Err(why) => {
+            let (refusal, db) = stopped(why, lens.db);
+            s.place = Place::Closed(Lens { db, ..lens });
+            Err(Denied::Refused(refusal))
+        }
     }
 }
 
-fn verdict_done(s: State, lens: Lens, r: Opened) -> Done {
-    let verdict = r.verdict;
-    let no = number_of(verdict);
-    if no != numbers::ACCEPTED {
-        let db = laid_to(lens.db, verdict);
-        let left = Lens { db, ..lens };
-        return dropped(no, s, left);
-    }
-    let store = r.store;
-    let state = State {
-        live: true,
-        store,
-        ..s
-    };
-    nothing_done(no, state)
-}
+// ---- calls with no stores: each gives what it hands out, 0 where that is nothing. A refusal leaves the store.
 
-fn opened(s: State, log: &mut [u8], db: &mut [u8], clog: &mut [u8], frames: &[u8]) -> Done {
-    let store = s.store;
-    let lens = store.lens;
-    let r = opens::open(lens, log, db, clog, frames);
-    verdict_done(s, lens, r)
-}
-
-// ---- calls with no stores
-
-fn page_written(
-    s: State,
-    c: Command,
-    log: &[u8],
-    db: &[u8],
-    clog: &[u8],
-    frames: &mut [u8],
-) -> Done {
-    let store = s.store;
+fn page_written(s: &mut State, store: Store, c: Command, b: &mut Buffers) -> Result<u64, Denied> {
     let bytes = seeded(c.b);
-    let r = quiet::write_page(store, low(c.a), &bytes, log, db, clog, frames);
-    called(s, 0, r)
+    let page = low(c.a);
+    let left = quiet::write_page(store, page, &bytes, &b.log, &b.db, &b.clog, &mut b.frames)?;
+    s.place = Place::Open(left);
+    Ok(0)
 }
 
-fn page_told(s: State, c: Command, log: &[u8], db: &[u8], clog: &[u8], frames: &mut [u8]) -> Done {
-    let store = s.store;
-    let r = quiet::read_page(store, low(c.a), log, db, clog, frames);
-    let bytes = r.bytes;
-    let changed = r.changed;
-    let gave = sum(&bytes[..]);
-    called(s, gave, changed)
+fn page_told(s: &mut State, store: Store, page: u32, b: &mut Buffers) -> Result<u64, Denied> {
+    let (bytes, left) = quiet::read_page(store, page, &b.log, &b.db, &b.clog, &mut b.frames)?;
+    s.place = Place::Open(left);
+    Ok(sum(&bytes))
 }
 
-fn id_given(s: State, log: &[u8], db: &[u8], clog: &[u8], frames: &[u8]) -> Done {
-    let store = s.store;
-    let r = quiet::allocate_id(store, log, db, clog, frames);
-    let changed = r.changed;
-    called(s, r.id.0, changed)
+fn id_given(s: &mut State, store: Store, b: &Buffers) -> Result<u64, Denied> {
+    let (id, left) = quiet::allocate_id(store, &b.log, &b.db, &b.clog, &b.frames)?;
+    s.place = Place::Open(left);
+    Ok(id.0)
 }
 
-fn page_given(s: State, log: &[u8], db: &[u8], clog: &[u8], frames: &[u8]) -> Done {
-    let store = s.store;
-    let r = quiet::allocate_page(store, log, db, clog, frames);
-    let changed = r.changed;
-    called(s, r.page as u64, changed)
+fn page_given(s: &mut State, store: Store, b: &Buffers) -> Result<u64, Denied> {
+    let (page, left) = quiet::allocate_page(store, &b.log, &b.db, &b.clog, &b.frames)?;
+    s.place = Place::Open(left);
+    Ok(page as u64)
 }
 
-fn id_of(slot: Slot) -> u64 {
-    match slot {
-        Slot::Installed(id) => id.0,
-        Slot::Empty => 0,
-    }
-}
-
-fn uninstalled(s: State, log: &[u8], db: &[u8], clog: &[u8], frames: &[u8]) -> Done {
-    let store = s.store;
-    let r = quiet::uninstall(store, log, db, clog, frames);
-    let changed = r.changed;
-    let aside = r.held;
-    let slot = aside.slot;
-    let with_it = State { aside, ..s };
-    called(with_it, id_of(slot), changed)
+// Where it is refused, none is aside.
+fn uninstalled(s: &mut State, store: Store, b: &Buffers) -> Result<u64, Denied> {
+    s.aside = None;
+    let (held, left) = quiet::uninstall(store, &b.log, &b.db, &b.clog, &b.frames)?;
+    s.place = Place::Open(left);
+    let Slot::Installed(id) = held.slot else {
+        return Ok(0);
+    };
+    s.aside = Some(Transaction {
+        id,
+        touched: held.touched,
+    });
+    Ok(id.0)
 }
 
 // Where it is refused the transaction stays aside.
-fn installed(s: State, log: &[u8], db: &[u8], clog: &[u8], frames: &[u8]) -> Done {
-    let store = s.store;
-    let old = s.aside;
-    let slot = old.slot;
-    if !form::is_installed(slot) {
-        return nothing_done(NO_TRANSACTION, s);
-    }
-    let touched = old.touched;
-    let x = Transaction {
-        id: TransactionId(id_of(slot)),
-        touched,
-    };
-    let r = quiet::install(store, x, log, db, clog, frames);
-    if r.number != numbers::ACCEPTED {
-        return called(s, 0, r);
-    }
-    let aside = nothing_held();
-    let without = State { aside, ..s };
-    called(without, 0, r)
+fn installed(s: &mut State, store: Store, b: &Buffers) -> Result<u64, Denied> {
+    let x = s.aside.ok_or(Denied::NoTransaction)?;
+    let left = quiet::install(store, x, &b.log, &b.db, &b.clog, &b.frames)?;
+    s.place = Place::Open(left);
+    s.aside = None;
+    Ok(0)
 }
 
-fn quietly(s: State, c: Command, log: &[u8], db: &[u8], clog: &[u8], frames: &mut [u8]) -> Done {
-    let op = c.op;
-    match op {
-        20 => page_written(s, c, log, db, clog, frames),
-        21 => page_told(s, c, log, db, clog, frames),
-        22 => id_given(s, log, db, clog, &frames[..]),
-        23 => page_given(s, log, db, clog, &frames[..]),
-        24 => uninstalled(s, log, db, clog, &frames[..]),
-        _ => installed(s, log, db, clog, &frames[..]),
+fn quietly(s: &mut State, store: Store, c: Command, b: &mut Buffers) -> Result<u64, Denied> {
+    match c.op {
+        20 => page_written(s, store, c, b),
+        21 => page_told(s, store, low(c.a), b),
+        22 => id_given(s, store, b),
+        23 => page_given(s, store, b),
+        24 => uninstalled(s, store, b),
+        _ => installed(s, store, b),
     }
 }
 
 // ---- calls with stores
 
-fn carried(
-    s: Store,
-    c: Command,
-    log: &mut [u8],
-    db: &mut [u8],
-    clog: &mut [u8],
-    frames: &mut [u8],
-) -> Changed {
-    let op = c.op;
+fn carried(s: Store, c: Command, b: &mut Buffers) -> Result<Store, Refusal> {
     let list = [low(c.a), low(c.b)];
-    match op {
+    let (log, db, clog, frames) = (&mut b.log, &mut b.db, &mut b.clog, &mut b.frames);
+    match c.op {
         30 => calls::begin(s, TransactionId(c.a), log, db, clog, frames),
         31 => calls::flush(s, low(c.a), log, db, clog, frames),
         32 => settle::commit(s, log, db, clog, frames),
@@ -572,18 +358,10 @@ fn carried(
     }
 }
 
-fn cut_at(
-    s: Store,
-    c: Command,
-    k: usize,
-    log: &mut [u8],
-    db: &mut [u8],
-    clog: &mut [u8],
-    frames: &[u8],
-) -> Cut {
-    let op = c.op;
+fn cut_at(s: Store, c: Command, k: usize, b: &mut Buffers) -> Result<Lens, Refusal> {
     let list = [low(c.a), low(c.b)];
-    match op {
+    let (log, db, clog, frames) = (&mut b.log, &mut b.db, &mut b.clog, &b.frames);
+    match c.op {
         30 => calls::begin_to(s, TransactionId(c.a), k, log, db, clog, frames),
         31 => calls::flush_to(s, low(c.a), k, log, db, clog, frames),
         32 => settle::commit_to(s, k, log, db, clog, frames),
@@ -595,191 +373,83 @@ fn cut_at(
 }
 
 // A refused call has no stores to be cut at, and leaves the store.
-fn cut_done(s: State, r: Cut) -> Done {
-    if r.number != numbers::ACCEPTED {
-        return nothing_done(r.number, s);
-    }
-    let lens = r.lens;
-    dropped(numbers::ACCEPTED, s, lens)
-}
-
-fn stored(
-    s: State,
-    c: Command,
-    log: &mut [u8],
-    db: &mut [u8],
-    clog: &mut [u8],
-    frames: &mut [u8],
-) -> Done {
-    let store = s.store;
-    if 0 < s.cut {
-        let cut = cut_at(store, c, s.cut - 1, log, db, clog, &frames[..]);
-        return cut_done(s, cut);
-    }
-    let r = carried(store, c, log, db, clog, frames);
-    called(s, 0, r)
+fn stored(s: &mut State, store: Store, c: Command, b: &mut Buffers) -> Result<u64, Denied> {
+    s.place = match s.cut {
+        Some(k) => Place::Closed(cut_at(store, c, k, b)?),
+        None => Place::Open(carried(store, c, b)?),
+    };
+    Ok(0)
 }
 
 // ---- the script
 
-fn on_store(
-    s: State,
-    c: Command,
-    log: &mut [u8],
-    db: &mut [u8],
-    clog: &mut [u8],
-    frames: &mut [u8],
-) -> Done {
-    if !s.live {
-        return nothing_done(NO_STORE, s);
+fn on_store(s: &mut State, c: Command, b: &mut Buffers) -> Result<u64, Denied> {
+    match s.place {
+        Place::Open(store) if c.op < 30 => quietly(s, store, c, b),
+        Place::Open(store) => stored(s, store, c, b),
+        Place::Closed(_) => Err(Denied::NoStore),
     }
-    if c.op < 30 {
-        return quietly(s, c, &log[..], &db[..], &clog[..], frames);
-    }
-    stored(s, c, log, db, clog, frames)
 }
 
-fn is_opcode(op: u64) -> bool {
-    if op < 8 {
-        return true;
+// What a command hands out.
+fn obeyed(s: &mut State, c: Command, b: &mut Buffers) -> Result<u64, Denied> {
+    match c.op {
+        0 => *s = fresh(),
+        1..=7 => s.place = Place::Closed(built(lens_of(s.place), c, b)),
+        10 => return opened(s, b),
+        11 => {}
+        20..=25 | 30..=36 => return on_store(s, c, b),
+        _ => return Err(Denied::NoOpcode),
     }
-    if op < 10 {
-        return false;
-    }
-    if op < 12 {
-        return true;
-    }
-    if op < 20 {
-        return false;
-    }
-    if op < 26 {
-        return true;
-    }
-    if op < 30 {
-        return false;
-    }
-    op < 37
+    Ok(0)
 }
 
-fn obeyed(
-    s: State,
-    c: Command,
-    log: &mut [u8],
-    db: &mut [u8],
-    clog: &mut [u8],
-    frames: &mut [u8],
-) -> Done {
-    if !is_opcode(c.op) {
-        return nothing_done(NO_OPCODE, s);
+// A refused read is told with the sum over a page of zeros.
+fn told(c: Command, answer: Result<u64, Denied>) -> (u8, u64) {
+    match answer {
+        Ok(gave) => (0, gave),
+        Err(Denied::Refused(refusal)) if c.op == 21 => (refusal.number(), sum(&[0; 4096])),
+        Err(why) => (why.number(), 0),
     }
-    if c.op < 8 {
-        return built(s, c, log, db, clog);
-    }
-    if c.op == 10 {
-        return opened(s, log, db, clog, &frames[..]);
-    }
-    if c.op == 11 {
-        return nothing_done(numbers::ACCEPTED, s);
-    }
-    on_store(s, c, log, db, clog, frames)
 }
 
 // The cut that the next command is to have. No call has a thousand stores.
-fn next_cut(c: Command) -> usize {
-    if c.op != 11 {
-        return 0;
-    }
-    fields::smaller(c.a as usize, 1000) + 1
-}
-
-fn turn(
-    rt: &impl Print,
-    s: State,
-    c: Command,
-    log: &mut [u8],
-    db: &mut [u8],
-    clog: &mut [u8],
-    frames: &mut [u8],
-) -> io::Result<State> {
-    let d = obeyed(s, c, log, db, clog, frames);
-    let after = d.state;
-    show_answer(rt, c.op, d.number, d.gave)?;
-    show_state(rt, after, &log[..], &db[..], &clog[..], &frames[..])?;
-    let cut = next_cut(c);
-    Ok(State { cut, ..after })
-}
-
-fn nth(script: &[u8], i: usize) -> Command {
-    let at = i % 65536 * RECORD;
-    Command {
-        op: fields::get_u64(script, at),
-        a: fields::get_u64(script, at + 8),
-        b: fields::get_u64(script, at + 16),
+fn next_cut(c: Command) -> Option<usize> {
+    if c.op == 11 {
+        Some((c.a as usize).min(1000))
+    } else {
+        None
     }
 }
 
-fn run(
-    rt: &impl Print,
-    script: &[u8],
-    log: &mut [u8],
-    db: &mut [u8],
-    clog: &mut [u8],
-    frames: &mut [u8],
-) -> io::Result<()> {
+fn turn(rt: &impl Print, s: &mut State, c: Command, b: &mut Buffers) -> io::Result<()> {
+    let (number, gave) = told(c, obeyed(s, c, b));
+    s.cut = next_cut(c);
+    print!(rt; "{} {number} {gave}", c.op)?;
+    show_place(rt, s.place, b)
+}
+
+fn run(rt: &impl Print, script: &[u8], b: &mut Buffers) -> io::Result<()> {
     let mut s = fresh();
-    let mut i = 0;
-    while i < script.len() / RECORD {
-        let c = nth(script, i);
-        i += 1;
-        s = turn(rt, s, c, log, db, clog, frames)?;
+    for record in script.chunks_exact(RECORD) {
+        let c = Command {
+            op: fields::get_u64(record, 0),
+            a: fields::get_u64(record, 8),
+            b: fields::get_u64(record, 16),
+        };
+        turn(rt, &mut s, c, b)?;
     }
     Ok(())
 }
 
-// Reads until the buffer is full, the file ends or a read fails, and gives how many bytes are at the buffer's start.
-fn read_full(file: &mut impl Read, buf: &mut [u8]) -> usize
-    ensures { result ≤ length buf.new }
-{
-    let mut done = 0;
-    while done < buf.len() {
-        let n = read_some(file, &mut buf[done..]);
-        if n == 0 {
-            break;
-        }
-        done += n;
-    }
-    done
-}
-
-// A read that fails gives nothing, as at the end.
-fn read_some(file: &mut impl Read, buf: &mut [u8]) -> usize
-    ensures { result ≤ length buf.new }
-{
-    match file.read(buf) {
-        Ok(n) => n,
-        Err(_) => 0,
-    }
-}
-
-fn fetch(rt: &impl Files, script: &mut [u8; 16384]) -> usize {
-    match File::open(rt, "script") {
-        Ok(mut file) => read_full(&mut file, script),
-        Err(_) => 0,
-    }
-}
-
-fn start(rt: &impl Print, script: &[u8; 16384], n: usize) -> io::Result<()> {
-    let mut log = [0xEEu8; 32768];
-    let mut db = [0xEEu8; 32768];
-    let mut clog = [0xEEu8; 256];
-    let mut frames = [0xEEu8; 32768];
-    let all = &script[..];
-    let end = fields::smaller(n, all.len());
-    run(rt, &all[..end], &mut log, &mut db, &mut clog, &mut frames)
-}
-
 fn main(rt: HostRuntime) -> io::Result<()> {
     let mut script = [0u8; 16384];
-    let n = fetch(&rt, &mut script);
-    start(&rt, &script, n)
+    let n = intake::fetch_start(&rt, "script", &mut script);
+    let mut b = Buffers {
+        log: [0xEE; 32768],
+        db: [0xEE; 32768],
+        clog: [0xEE; 256],
+        frames: [0xEE; 32768],
+    };
+    run(&rt, &script[..n], &mut b)
 }

@@ -15,10 +15,8 @@ use Rattle.sorted.proofs.Laws.{front, done, take_min, hit-count, hit-array, new-
 use Rattle.table.specs.declared.Status.{Status}
 use Rattle.table.specs.declared.Status.TheVariants.{Active, Committed, Aborted}
 use Rattle.table.specs.declared.Entry.{Entry}
-use Rattle.table.specs.declared.Inserted.{Inserted}
-use Rattle.table.specs.declared.Known.{Known}
-use Rattle.table.specs.declared.Known.TheVariants.{Is, Absent}
-use Rattle.table.specs.Entries.{id_of, insert_entry, ascending, status_of, known_of, inserted, bounded, time_of}
+use Rattle.std.specs.Prelude.{Option, Some, None}
+use Rattle.table.specs.Entries.{Inserted, id_of, insert_entry, ascending, status_of, known_of, inserted, bounded, time_of}
 use Rattle.rows.specs.Inside.{bad_rows}
 use Rattle.rows.specs.Rows.{row_id, tag_of, status_in, odd_row, any_odd, entry_of, row_of, table_of, Rowed, rowed_as, row_kept, set_row}
 
@@ -27,9 +25,9 @@ no_row = []
 
 -- ---- a look-up
 
-abbrev pub found : Hit (List ℕ) → Known
-found miss = Absent
-found (hit r) = Is (status_in (get_or r 1 0) (get_or r 2 0))
+abbrev pub found : Hit (List ℕ) → Option Status
+found miss = None
+found (hit r) = Some (status_in (get_or r 1 0) (get_or r 2 0))
 
 pub found-is : (k : ℕ) (l : List (List ℕ)) → status_of k (map entry_of l) ≡ found (look_by row_id k l)
 unfolding status_of look_by
@@ -60,7 +58,10 @@ accepted N rows count e a n h p f =
     let few : leb (length l) N ≡ true = le-leb (length l) N (omega arith) in
     rw (f, few, h)
 
-module _ (N : ℕ) (rows : List (List ℕ)) (count : ℕ) (e : Entry) (n p : ℕ) (len : length rows ≡ N) (held : n ≡ min count N) (at : p ≡ place_by row_id (id_of e) (take n rows)) where
+module _ (N : ℕ) (rows : List (List ℕ)) (count : ℕ) (e : Entry) (n p : ℕ) (len : length rows ≡ N) (held : n ≡ min count N) (place : p ≡ place_by row_id (id_of e) (take count rows)) where
+  at : p ≡ place_by row_id (id_of e) (take n rows)
+  at = rw (held, take_min rows count N len) place
+
   pub with-hit : p < n → row_id (get_or rows p no_row) ≡ id_of e → rowed_as 0 n (set rows p (row_of e)) ≡ set_row N rows count e
   with-hit h q =
       accepted N rows count e (set rows p (row_of e)) n (hit-count row_id no_row rows count N n p (row_of e) len held at h q) (omega arith)

@@ -6,12 +6,12 @@ use native.Mathlib.Omega.{arith}
 use mathlib.Core.Path.{◌≡◌, refl, sym, ap, ◌∙◌}
 use mathlib.Core.List.{List, [], ◌∷◌, ◌++◌, map}
 use mathlib.Core.Bool.{Bool, true, false, cond}
-use lib.ListN.{length, length-map, length-take, take, drop, get_or, set}
+use lib.ListN.{length, drop_of_length-le, length-map, length-take, take, drop, get_or, set}
 use lib.Dec.{ltb, eqb}
 use borrow.Author.Tests.{le-leb, lt-leb, ne_eqb, lt-ltb, ltb-true}
 use Rattle.fields.proofs.Tests.{Order, less, most, order}
 use Rattle.sorted.specs.Sorted.{laid_on, insert_by, insert_all_by, ascending_by}
-use Rattle.sorted.proofs.Laws.{front, done, take_min, laid-back, laid-over}
+use Rattle.sorted.proofs.Laws.{at-turn, take_min, laid-back, laid-over}
 use Rattle.sorted.proofs.Order.{insert-grows, all-grows, ascending-head, ascending-tail}
 use Rattle.table.specs.declared.Entry.{Entry}
 use Rattle.table.specs.Entries.{id_of, insert_entry, insert_all, largest_by, time_of}
@@ -20,14 +20,14 @@ use Rattle.rows.proofs.Laws.{no_row}
 
 -- ---- the turns of the loops
 
-pub all-on : (N : ℕ) (r s : Rowed) (top : List (List ℕ)) (n i : ℕ) → i < n → i < length top → s ≡ held_row N r (entry_of (get_or top i no_row)) →
-    set_all N s (map entry_of (drop (i + 1) (take n top))) ≡ set_all N r (map entry_of (drop i (take n top)))
+pub all-on : (N : ℕ) (r s : Rowed) (top : List (List ℕ)) (i : ℕ) → i < length top → s ≡ held_row N r (entry_of (get_or top i no_row)) →
+    set_all N s (map entry_of (drop (i + 1) top)) ≡ set_all N r (map entry_of (drop i top))
 unfolding set_all
-all-on N r s top n i h p e = rw (front top n i no_row h p, e)
+all-on N r s top i h e = rw (at-turn top i no_row h, e)
 
-pub all_end : (N : ℕ) (r : Rowed) (top : List (List ℕ)) (n i : ℕ) → min n (length top) ≤ i → set_all N r (map entry_of (drop i (take n top))) ≡ r
+pub all_end : (N : ℕ) (r : Rowed) (top : List (List ℕ)) (i : ℕ) → length top ≤ i → set_all N r (map entry_of (drop i top)) ≡ r
 unfolding set_all
-all_end N r top n i h = rw (done top n i h)
+all_end N r top i h = rw (drop_of_length-le top {i = i} h)
 
 copy-suc : (a l : List (List ℕ)) (i : ℕ) → i < length a → i < length l → set (take i a ++ drop i l) i (get_or a i no_row) ≡ take (suc i) a ++ drop (suc i) l
 copy-suc [] l i p q = absurd (not-suc-le-zero p)
@@ -38,14 +38,14 @@ copy-suc (x ∷ a) (y ∷ l) (suc i) p q = ap (λ (m : List (List ℕ)). x ∷ m
 pub copy-on : (a l : List (List ℕ)) (i : ℕ) → i < length a → i < length l → set (take i a ++ drop i l) i (get_or a i no_row) ≡ take (i + 1) a ++ drop (i + 1) l
 copy-on a l i p q = rw (add-one i) (copy-suc a l i p q)
 
-pub largest-on : (f : Entry → ℕ) (rows : List (List ℕ)) (n i : ℕ) → i < n → i < length rows →
-    largest_by f (map entry_of (drop i (take n rows))) ≡ max (f (entry_of (get_or rows i no_row))) (largest_by f (map entry_of (drop (i + 1) (take n rows))))
+pub largest-on : (f : Entry → ℕ) (rows : List (List ℕ)) (i : ℕ) → i < length rows →
+    largest_by f (map entry_of (drop i rows)) ≡ max (f (entry_of (get_or rows i no_row))) (largest_by f (map entry_of (drop (i + 1) rows)))
 unfolding largest_by
-largest-on f rows n i h p = rw (front rows n i no_row h p)
+largest-on f rows i h = rw (at-turn rows i no_row h)
 
-pub largest-end : (f : Entry → ℕ) (rows : List (List ℕ)) (n i : ℕ) → min n (length rows) ≤ i → largest_by f (map entry_of (drop i (take n rows))) ≡ 0
+pub largest-end : (f : Entry → ℕ) (rows : List (List ℕ)) (i : ℕ) → length rows ≤ i → largest_by f (map entry_of (drop i rows)) ≡ 0
 unfolding largest_by
-largest-end f rows n i h = rw (done rows n i h)
+largest-end f rows i h = rw (drop_of_length-le rows {i = i} h)
 
 -- the time of a row by its tag
 pub time-one : (g t : ℕ) → g ≡ 1 → t ≡ time_of (status_in g t)

@@ -1,13 +1,15 @@
 -- The status table as a list of rows, id, tag and time, of which the first count are held. A tag is 0 for Active, 1 for Committed, 2 for Aborted; the time
 -- is 0 where the tag is not 1. A changed table is its rows laid in front of the array: what stands past the last entry stays. Assumes nothing.
-use Rattle.std.specs.Prelude.{ℕ, List, [], ◌∷◌, map, Bool, false, cond, not, ◌&&◌, ◌||◌, length, take, get_or, ltb, leb, eqb}
+use Rattle.std.specs.Prelude.{ℕ, List, [], ◌∷◌, map, Bool, false, cond, not, ◌&&◌, ◌||◌, length, take, get_or, ltb, leb, eqb, Result, Ok, Err}
+use Rattle.fields.specs.declared.refusal.Refusal.{Refusal}
+use Rattle.fields.specs.Refusals.{number_of, number_in}
 use Rattle.sorted.specs.Sorted.{laid_on, insert_by}
 use Rattle.table.specs.declared.Status.{Status}
 use Rattle.table.specs.declared.Status.TheVariants.{Active, Committed, Aborted}
 use Rattle.table.specs.declared.Entry.{Entry}
 use Rattle.table.specs.declared.Table.{Table}
 use Rattle.table.specs.Entries.{time_of}
-use Rattle.rows.specs.declared.Counted.{Counted}
+use Rattle.rows.specs.declared.Filled.{Filled}
 
 -- ---- a row
 
@@ -52,12 +54,26 @@ pub record Rowed : Type 0 where
 abbrev pub rowed_as : ℕ → ℕ → List (List ℕ) → Rowed
 rowed_as number count rows = record { number = number; count = count; rows = rows }
 
-abbrev pub rowed : Counted → List (List ℕ) → Rowed
-rowed r rows = rowed_as r.number r.count rows
+abbrev pub rowed : Filled → List (List ℕ) → Rowed
+rowed r rows = rowed_as (number_in r.set) r.count rows
 
 -- the number and the count alone
+pub record Counted : Type 0 where
+  pub number : ℕ
+  pub count : ℕ
+
 abbrev pub row_kept : Rowed → Counted
 row_kept r = record { number = r.number; count = r.count }
+
+-- a result where n rows were held: refused, it leaves that many
+abbrev pub counted_in : ℕ → Result ℕ Refusal → Counted
+counted_in n (Ok m) = record { number = 0; count = m }
+counted_in n (Err r) = record { number = number_of r; count = n }
+
+-- with the rows
+abbrev pub rowed_in : ℕ → Result ℕ Refusal → List (List ℕ) → Rowed
+rowed_in n (Ok m) rows = rowed_as 0 m rows
+rowed_in n (Err r) rows = rowed_as (number_of r) n rows
 
 -- refused with 7, and the table as it was, where it would have more than N entries
 unfoldable pub set_row : ℕ → List (List ℕ) → ℕ → Entry → Rowed

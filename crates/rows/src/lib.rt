@@ -2,29 +2,33 @@
 // Committed, 2 for Aborted, and the time is 0 where the tag is not 1. Only this crate goes into a row: what it takes and gives are ids, statuses and times.
 #![tactic(auto)]
 
-ghost use Rattle.std.specs.Prelude.{◌≡◌, ◌≤◌, ◌<◌, ◌+◌, ◌-◌, min, max, [], ◌∷◌, ◌++◌, map, ◌||◌, take, drop, get_or};
+ghost use Rattle.std.specs.Prelude.{◌≡◌, ◌≤◌, min, [], map, length, take, get_or};
 ghost use Rattle.sorted.specs.Sorted.{laid_on};
 ghost use Rattle.table.specs.Entries.{list_of, status_of, largest_by, largest_id, largest_time};
 ghost use Rattle.table.specs.Inside.{number_of};
-ghost use Rattle.rows.specs.Rows.{status_in, odd_row, entry_of, row_of, set_row, held_row, set_all, rowed, row_kept};
+ghost use Rattle.rows.specs.Rows.{status_in, odd_row, entry_of, row_of, set_row, held_row, set_all, rowed, rowed_in, row_kept, counted_in};
 ghost use Rattle.rows.specs.Inside.{place_of, bad_rows};
 
-use fields::{CommitTime, TransactionId, numbers};
-use table::{Entry, Known, Status, Table};
+use fields::{CommitTime, Refusal, TransactionId, arrays};
+use table::{Entry, Status, Table};
 
 const LIMIT: usize = 256;
 
-// number is 0, or 7 with the table as it was.
+// How far entries were set one after the other: whether all of them were, and how many rows are held. From the first refusal on nothing changes: the count is
+// that of then.
 #[derive(Clone, Copy)]
-pub struct Counted {
-    pub number: u8,
+pub struct Filled {
+    pub set: Result<(), Refusal>,
     pub count: usize,
 }
 
-fn held(count: usize) -> usize
-    ensures { result ≡ min count 256 }
+// The rows that are held: as many as the count says, and no more than the array has. No function trusts the count that it is given.
+fn held(rows: &[[u64; 3]; 256], count: usize) -> &[[u64; 3]]
+    ensures list { result.now ≡ take count rows.now }
+    ensures len { length result.now ≡ min count 256 }
 {
-    if count < LIMIT { count } else { LIMIT }
+    let n = count.min(LIMIT);
+    &rows[..n]
 }
 
 // ---- a row
@@ -41,7 +45,8 @@ fn status_in(tag: u64, time: u64) -> Status
     Status::Aborted
 }
 
-fn row_of(id: TransactionId, status: Status) -> [u64; 3]
+// An entry as a row.
+pub fn row_of(id: TransactionId, status: Status) -> [u64; 3]
     ensures { result ≡ row_of (record { id = id; status = status }) }
 {
     let n = id.0;
@@ -59,211 +64,144 @@ fn is_odd(row: [u64; 3]) -> bool
     ensures { result ≡ odd_row row }
 {
     let tag = row[1];
-    if tag == 1 {
-        return false;
-    }
-    if 2 < tag {
-        return true;
-    }
-    row[2] != 0
-}
-
-// What was found, and what a row and the one after it add to it.
-fn worse(bad: bool, odd: bool, falls: bool) -> bool
-    ensures { result ≡ (bad || (odd || falls)) }
-{
-    if bad {
-        return true;
-    }
-    if odd {
-        return true;
-    }
-    falls
+    tag != 1 && (2 < tag || row[2] != 0)
 }
 
 // Whether one of the first rows is no entry's, or their ids do not ascend. One loop for both, with no early way out.
 pub fn is_bad(rows: &[[u64; 3]; 256], count: usize) -> bool
     ensures { result ≡ bad_rows (take count rows.now) }
 {
-    let all = &rows[..];
-    let n = held(count);
+    let n = count.min(LIMIT);
     if n == 0 {
         return false;
     }
     let mut bad = false;
-    let mut i = 1;
-    while i < n {
-        let x = rows[i - 1];
-        let odd = is_odd(x);
-        bad = worse(bad, odd, rows[i][0] <= rows[i - 1][0]);
-        i += 1;
+    for i in 1..n {
+        let odd = is_odd(rows[i - 1]);
+        bad |= odd | (rows[i][0] <= rows[i - 1][0]);
     }
-    let last = rows[n - 1];
-    let odd = is_odd(last);
-    worse(bad, odd, false)
+    let odd = is_odd(rows[n - 1]);
+    bad | odd
 }
 
 // ---- look-up
 
 // How many ids come before the first that is not below `id`.
-fn place(rows: &[[u64; 3]; 256], n: usize, id: TransactionId) -> usize
-    requires { n ≤ 256 }
-    ensures { result ≡ place_of id.0 (take n rows.now) }
+fn place(rows: &[[u64; 3]], id: TransactionId) -> usize
+    ensures is { result ≡ place_of id.0 rows.now }
+    ensures bound { result ≤ length rows.now }
 {
-    let all = &rows[..];
-    let mut i = 0;
-    while i < n {
-        if id.0 <= rows[i][0] {
+    for (i, row) in rows.iter().enumerate() {
+        if id.0 <= row[0] {
             return i;
         }
-        i += 1;
     }
-    i
+    rows.len()
 }
 
-pub fn find(rows: &[[u64; 3]; 256], count: usize, id: TransactionId) -> Known
+pub fn find(rows: &[[u64; 3]; 256], count: usize, id: TransactionId) -> Option<Status>
     ensures { result ≡ status_of id.0 (map entry_of (take count rows.now)) }
 {
-    let all = &rows[..];
-    let n = held(count);
-    let mut i = 0;
-    while i < n {
-        if rows[i][0] == id.0 {
-            let s = status_in(rows[i][1], rows[i][2]);
-            return Known::Is(s);
+    for row in held(rows, count) {
+        if row[0] == id.0 {
+            return Some(status_in(row[1], row[2]));
         }
-        i += 1;
     }
-    Known::Absent
+    None
 }
 
 // ---- an entry is set
 
-// The rows from..to move up by one, and x goes to from. From the last down, so that none is written over before it has moved.
-fn shift(rows: &mut [[u64; 3]; 256], from: usize, to: usize, x: [u64; 3])
-    requires { (from ≤ to) × (to < 256) }
-    ensures { rows.new ≡ take from rows.old ++ x ∷ take (to - from) (drop from rows.old) ++ drop (to + 1) rows.old }
+// What `with_status` answers, whatever the status; nothing is changed.
+pub fn check_status(
+    rows: &[[u64; 3]; 256],
+    count: usize,
+    id: TransactionId,
+) -> Result<usize, Refusal>
+    ensures { counted_in count result ≡ row_kept (set_row 256 rows.now count (record { id = id; status = Status.Active })) }
 {
-    let all = &rows[..];
-    let mut i = to;
-    while from < i {
-        rows[i] = rows[i - 1];
-        i -= 1;
-    }
-    rows[from] = x;
-}
-
-// The number and the count that `with_status` gives, whatever the status; nothing is changed.
-pub fn set_no(rows: &[[u64; 3]; 256], count: usize, id: TransactionId) -> Counted
-    ensures { result ≡ row_kept (set_row 256 rows.now count (record { id = id; status = Status.Active })) }
-{
-    let all = &rows[..];
-    let n = held(count);
-    let p = place(rows, n, id);
-    if p < n {
-        if rows[p][0] == id.0 {
-            return Counted {
-                number: numbers::ACCEPTED,
-                count: n,
-            };
-        }
+    let list = held(rows, count);
+    let n = list.len();
+    let p = place(list, id);
+    if p < n && rows[p][0] == id.0 {
+        return Ok(n);
     }
     if LIMIT <= n {
-        return Counted {
-            number: numbers::TABLE_FULL,
-            count,
-        };
+        return Err(Refusal::TableFull);
     }
-    Counted {
-        number: numbers::ACCEPTED,
-        count: n + 1,
-    }
+    Ok(n + 1)
 }
 
-// In the stead of the entry with this id, or at its place by id: 0 and the count after it, or 7 and nothing changed.
+// In the stead of the entry with this id, or at its place by id: the count after it, or a refusal and nothing changed.
 pub fn with_status(
     rows: &mut [[u64; 3]; 256],
     count: usize,
     id: TransactionId,
     status: Status,
-) -> Counted
-    ensures { rowed result rows.new ≡ set_row 256 rows.old count (record { id = id; status = status }) }
+) -> Result<usize, Refusal>
+    ensures { rowed_in count result rows.new ≡ set_row 256 rows.old count (record { id = id; status = status }) }
 {
-    let all = &rows[..];
     let x = row_of(id, status);
-    let n = held(count);
-    let p = place(&*rows, n, id);
-    if p < n {
-        if rows[p][0] == id.0 {
-            rows[p] = x;
-            return Counted {
-                number: numbers::ACCEPTED,
-                count: n,
-            };
-        }
+    let list = held(&*rows, count);
+    let n = list.len();
+    let p = place(list, id);
+    if p < n && rows[p][0] == id.0 {
+        rows[p] = x;
+        return Ok(n);
     }
     if LIMIT <= n {
-        return Counted {
-            number: numbers::TABLE_FULL,
-            count,
-        };
+        return Err(Refusal::TableFull);
     }
-    shift(rows, p, n, x);
-    Counted {
-        number: numbers::ACCEPTED,
-        count: n + 1,
-    }
+    arrays::shift_in(&mut rows[p..n + 1], x);
+    Ok(n + 1)
 }
 
 // ---- several entries
 
-// The status set, unless one was refused before: from the first 7 on nothing changes.
-pub fn hold(rows: &mut [[u64; 3]; 256], h: Counted, id: TransactionId, status: Status) -> Counted
+// The status set, unless one was refused before: from the first refusal on nothing changes.
+pub fn hold(rows: &mut [[u64; 3]; 256], h: Filled, id: TransactionId, status: Status) -> Filled
     ensures { rowed result rows.new ≡ held_row 256 (rowed h rows.old) (record { id = id; status = status }) }
 {
-    if h.number != numbers::ACCEPTED {
+    if h.set.is_err() {
         return h;
     }
-    with_status(rows, h.count, id, status)
+    match with_status(rows, h.count, id, status) {
+        Ok(count) => Filled { set: Ok(()), count },
+        Err(r) => Filled { set: Err(r), ..h },
+    }
+}
+
+fn entry_of(row: [u64; 3]) -> Entry
+    ensures { result ≡ entry_of row }
+{
+    let status = status_in(row[1], row[2]);
+    Entry {
+        id: TransactionId(row[0]),
+        status,
+    }
 }
 
 // The entry i; past the array the one of a row with no numbers.
 pub fn entry_at(rows: &[[u64; 3]; 256], i: usize) -> Entry
     ensures { result ≡ entry_of (get_or rows.now i []) }
 {
-    let all = &rows[..];
     if LIMIT <= i {
         return Entry {
             id: TransactionId(0),
             status: Status::Active,
         };
     }
-    let status = status_in(rows[i][1], rows[i][2]);
-    Entry {
-        id: TransactionId(rows[i][0]),
-        status,
-    }
+    entry_of(rows[i])
 }
 
 // The first n entries of top set in rows, in their order, up to the first that is refused.
-pub fn overlay(
-    rows: &mut [[u64; 3]; 256],
-    h: Counted,
-    top: &[[u64; 3]; 256],
-    count: usize,
-) -> Counted
+pub fn overlay(rows: &mut [[u64; 3]; 256], h: Filled, top: &[[u64; 3]; 256], count: usize) -> Filled
     ensures { rowed result rows.new ≡ set_all 256 (rowed h rows.old) (map entry_of (take count top.now)) }
 {
-    let all = &top[..];
-    let n = held(count);
     let mut c = h;
-    let mut i = 0;
-    while i < n {
-        let e = entry_at(top, i);
-        let id = e.id;
-        let status = e.status;
-        c = hold(rows, c, id, status);
-        i += 1;
+    for row in held(top, count) {
+        let e = entry_of(*row);
+        c = hold(rows, c, e.id, e.status);
     }
     c
 }
@@ -272,14 +210,8 @@ pub fn overlay(
 pub fn lay(rows: &mut [[u64; 3]; 256], from: &[[u64; 3]; 256], count: usize)
     ensures { rows.new ≡ laid_on rows.old (take count from.now) }
 {
-    let all = &rows[..];
-    let other = &from[..];
-    let n = held(count);
-    let mut i = 0;
-    while i < n {
-        rows[i] = from[i];
-        i += 1;
-    }
+    let list = held(from, count);
+    rows[..list.len()].copy_from_slice(list);
 }
 
 // ---- the largest
@@ -297,24 +229,12 @@ fn number_in(row: [u64; 3], times: bool) -> u64
     0
 }
 
-fn larger(a: u64, b: u64) -> u64
-    ensures { result ≡ max a b }
-{
-    if a < b { b } else { a }
-}
-
 fn largest(rows: &[[u64; 3]; 256], count: usize, times: bool) -> u64
     ensures { result ≡ largest_by (number_of times) (map entry_of (take count rows.now)) }
 {
-    let all = &rows[..];
-    let n = held(count);
     let mut m = 0;
-    let mut i = 0;
-    while i < n {
-        let r = rows[i];
-        let k = number_in(r, times);
-        m = larger(m, k);
-        i += 1;
+    for row in held(rows, count) {
+        m = m.max(number_in(*row, times));
     }
     m
 }
@@ -336,14 +256,8 @@ pub fn largest_time(rows: &[[u64; 3]; 256], count: usize) -> CommitTime
 pub fn lay_table(rows: &mut [[u64; 3]; 256], t: Table)
     ensures { rows.new ≡ laid_on rows.old (map row_of (list_of t)) }
 {
-    let all = &rows[..];
-    let n = held(t.count);
-    let mut i = 0;
-    while i < n {
+    for i in 0..t.count.min(LIMIT) {
         let e = t.entries[i];
-        let id = e.id;
-        let status = e.status;
-        rows[i] = row_of(id, status);
-        i += 1;
+        rows[i] = row_of(e.id, e.status);
     }
 }

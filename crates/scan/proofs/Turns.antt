@@ -5,7 +5,6 @@ use mathlib.Core.List.{List, [], ◌∷◌, map}
 use mathlib.Core.Bool.{Bool, true, false, cond, ◌||◌}
 use Prim.Native.Nat.{ℕ, ◌+◌, ◌*◌, ◌≤◌, ◌<◌}
 use native.Mathlib.Omega.{arith}
-use borrow.Author.Tests.{le-leb, lt-leb}
 use lib.Dec.{ltb}
 use lib.ListN.{length, take, drop, length-take, drop_of_length-le, length-append}
 use lib.Seq.{length-take-le}
@@ -25,22 +24,10 @@ use Rattle.frames.specs.Pages.{bad_page}
 use Rattle.world.specs.Refusals.{any_of, or_else}
 use Rattle.opening.specs.Opening.{statuses, past_db, past_clog}
 use Rattle.opening.proofs.Laws.{or-zero}
-use Rattle.scan.specs.declared.Scanned.{Scanned}
-use Rattle.scan.specs.Scans.{nothing, found, scanned, next_of}
+use Rattle.scan.specs.Scans.{Scanned, nothing, found, scanned, next_of}
 use Rattle.scan.specs.Inside.{image_past, with_image, with_status, with_record, with_read}
 use Rattle.wal.proofs.Sizes.{Sized, all-sized}
 use Rattle.scan.proofs.Held.{hold_all, hold-all, hold-none}
-
--- ---- an image's room
-
-module _ (P size page : ℕ) where
-  pub past-page : 4294967295 ≤ page → true ≡ image_past P size page
-  unfolding image_past
-  past-page h = rw (le-leb 4294967295 page h)
-
-  pub past-size : page < 4294967295 → ltb size (page * P + P) ≡ image_past P size page
-  unfolding image_past
-  past-size h = rw (lt-leb 4294967295 page h)
 
 -- ---- what is found so far, and what a parse of the rest adds
 

@@ -6,14 +6,13 @@ use Rattle.wal.specs.declared.Read.{Read}
 use Rattle.wal.specs.declared.Read.TheVariants.{Found, End, Torn, Unknown, Outside}
 use Rattle.table.specs.declared.Status.TheVariants.{Active, Committed, Aborted}
 use Rattle.table.specs.declared.Entry.{Entry}
-use Rattle.table.specs.declared.Inserted.{Inserted}
-use Rattle.table.specs.Entries.{empty_table, inserted, overlaid, settled_table}
+use Rattle.table.specs.Entries.{Inserted, empty_table, inserted, overlaid, settled_table}
 use Rattle.frames.specs.Pages.{bad_page}
 use Rattle.world.specs.Run.{decided}
 use Rattle.opening.specs.Opening.{past_clog}
-use Rattle.scan.specs.declared.Scanned.{Scanned}
 use Rattle.table.specs.declared.Table.{Table}
-use Rattle.scan.specs.declared.Surveyed.{Surveyed}
+use Rattle.scan.specs.Scans.{Scanned}
+use Rattle.scan.specs.Surveys.{Surveyed}
 
 -- the image of a page has no room
 unfoldable pub image_past : ℕ → ℕ → ℕ → Bool

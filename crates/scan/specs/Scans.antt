@@ -1,14 +1,32 @@
 -- One pass over a log's records that changes nothing, before an opening changes anything. Found are: whether an image lies past the database's buffer (5),
 -- whether an id's byte lies past the clog's buffer (6), the statuses that the records set, of each id the last one, and how the log ends. All records before the
 -- first bad one are tested for 5 and 6, also where the ids are already more than 256. P is the page size. Assumes nothing.
-use Rattle.std.specs.Prelude.{ℕ, [], map, false, cond}
+use Rattle.std.specs.Prelude.{ℕ, [], map, Bool, false, cond, Result}
 use Rattle.fields.specs.Files.{File, room, unfit}
+use Rattle.fields.specs.declared.refusal.Refusal.{Refusal}
+use Rattle.fields.specs.Refusals.{number_in}
 use Rattle.wal.specs.declared.Read.{Read}
 use Rattle.wal.specs.declared.Read.TheVariants.{Found, End, Torn, Unknown, Outside}
-use Rattle.table.specs.Entries.{empty_table, insert_all, bounded}
+use Rattle.table.specs.declared.Table.{Table}
+use Rattle.table.specs.Entries.{Inserted, inserted_of, empty_table, insert_all, bounded}
 use Rattle.world.specs.Refusals.{any_of}
 use Rattle.opening.specs.Opening.{records, end_no, statuses, past_db, past_clog}
-use Rattle.scan.specs.declared.Scanned.{Scanned}
+use Rattle.scan.specs.declared.Findings.{Findings}
+
+-- ---- what is found: the statuses that are set, 7 and no entry where they are of more than 256 ids; the number of the ending
+
+pub record Scanned : Type 0 where
+  pub images : Bool
+  pub ids : Bool
+  pub held : Inserted
+  pub ending : ℕ
+
+-- the statuses that a result holds, no entry where there are too many
+abbrev pub held_of : Result Table Refusal → Inserted
+held_of r = inserted_of (empty_table 256) r
+
+abbrev pub scanned_of : Findings → Scanned
+scanned_of s = record { images = s.images; ids = s.ids; held = held_of s.held; ending = number_in s.ending }
 
 -- ---- the whole pass
 

@@ -4,9 +4,12 @@ use mathlib.Core.List.{List, ◌∷◌, ◌++◌}
 use mathlib.Core.Bool.{Bool, true, false}
 use Prim.Native.Nat.{ℕ, ◌+◌, ◌-◌, ◌≤◌, ◌<◌, min}
 use native.Mathlib.Omega.{arith}
-use lib.ListN.{length, take, drop, get_or, set}
-use Rattle.sorted.proofs.Laws.{length-min, place-held}
-use Rattle.frames.specs.Pages.{is_in, resident_of, frame_count, number, seated, marked}
+use native.Mathlib.Numerals.{add-one}
+use lib.ListN.{length, take, drop, get_or, set, length-drop}
+use lib.Seq.{sets, drop-cons}
+use Rattle.fields.proofs.Stored.{sets-none}
+use Rattle.sorted.proofs.Laws.{length-min}
+use Rattle.frames.specs.Pages.{is_in, resident_of, frame_count, seated, marked}
 use Rattle.frames.specs.Inside.{below_in}
 use Rattle.frames.proofs.Values.{held-list, seat-old, seat-full, seat-new, seat-laid, mark-hit, mark-over, mark-new}
 use Rattle.seats.specs.Seats.{frames_in, touched_in, seated_in, marked_in}
@@ -34,12 +37,12 @@ module _ (pages : List ℕ) (n m size page : ℕ) (len : length pages ≡ 64) (h
         rw (seat-laid (frames_in pages n) 64 m page len held (seat-room k))
         (sym (seat-new 64 4096 (frames_in pages n) size page (there ∙ h) (omega (arith, many, size_is))))
 
-module _ (pages : List ℕ) (n m page p : ℕ) (len : length pages ≡ 64) (held : m ≡ min n 64) (at : p ≡ below_in page (take m pages)) where
+module _ (pages : List ℕ) (n m page p : ℕ) (len : length pages ≡ 64) (held : m ≡ min n 64) (place : p ≡ below_in page (take m pages)) where
+  at : p ≡ below_in page (take n pages)
+  at = rw (held-list pages n 64 m len held) place
+
   pub mark-there : p < m → get_or pages p 0 ≡ page → marked_in 0 pages m ≡ marked 64 (touched_in pages n) page
   mark-there h q = mark-hit 64 (touched_in pages n) page m p len held at h q
-
-  pub mark-place : p ≤ m
-  mark-place = omega (arith, at, place-held number 0 page pages m)
 
   module _ (fresh : p < m → get_or pages p 0 ≡ page → ⊥) where
     pub mark-none : 64 ≤ m → marked_in 11 pages n ≡ marked 64 (touched_in pages n) page
@@ -48,3 +51,11 @@ module _ (pages : List ℕ) (n m page p : ℕ) (len : length pages ≡ 64) (held
     pub mark-next : (b : List ℕ) → m < 64 → b ≡ take p pages ++ page ∷ take (m - p) (drop p pages) ++ drop (m + 1) pages →
         marked_in 0 b (m + 1) ≡ marked 64 (touched_in pages n) page
     mark-next b h q = mark-new 64 (touched_in pages n) page m p len held at fresh b h q
+
+-- ---- a list laid over the front of the array, page by page
+
+pub copy-turn : (b src : List ℕ) (i : ℕ) → i < length src → sets b i (drop i src) ≡ sets (set b i (get_or src i 0)) (i + 1) (drop (i + 1) src)
+copy-turn b src i h = rw (drop-cons src i 0 h, add-one)
+
+pub copy-end : (b src : List ℕ) (i : ℕ) → min (length src) (length b) ≤ i → sets b i (drop i src) ≡ b
+copy-end b src i h = sets-none (drop i src) b i (rw length-drop (omega arith))

@@ -2,248 +2,148 @@
 // crate frames says of its values; here the arrays are changed in place. No function trusts the count that it is given.
 #![tactic(auto)]
 
-ghost use Rattle.std.specs.Prelude.{◌≡◌, ◌≤◌, ◌<◌, ◌+◌, ◌-◌, min, ◌∷◌, ◌++◌, ◌||◌, length, take, drop, eqb};
+ghost use Rattle.std.specs.Prelude.{◌≡◌, ◌≤◌, min, length, take};
 ghost use Rattle.std.proofs.lemmas.List.Edits.{sets};
 ghost use Rattle.frames.specs.Pages.{is_in, ascending, any_bad, frame_count, found_in, place_told, seated, marked, touched_formed};
 ghost use Rattle.frames.specs.Inside.{below_in};
-ghost use Rattle.seats.specs.Seats.{frames_in, touched_in, seated_in, marked_in, seat_kept, mark_kept};
+ghost use Rattle.seats.specs.Seats.{frames_in, touched_in, seat_kept, mark_kept, kept_in, seated_by, marked_by};
 
-use fields::numbers;
-use frames::Place;
+use fields::{Refusal, arrays, numbers};
 
 // The most frames, and the most touched pages.
 const LIMIT: usize = 64;
 
-// number is 0, or 8 (a seat) or 11 (a mark) with the count as it was given.
-#[derive(Clone, Copy)]
-pub struct Kept {
-    pub number: u8,
-    pub count: usize,
-}
-
 fn held(count: usize) -> usize
     ensures { result ≡ min count 64 }
 {
-    if count < LIMIT { count } else { LIMIT }
+    count.min(LIMIT)
 }
 
 // How many frames a frame buffer of this size has.
 fn frame_count(size: usize) -> usize
     ensures { result ≡ frame_count 64 4096 size }
 {
-    let n = size / numbers::PAGE_SIZE;
-    if n < LIMIT { n } else { LIMIT }
+    (size / numbers::PAGE_SIZE).min(LIMIT)
 }
 
 // ---- resident pages
 
-// Whether a page was found before, or is this one.
-fn found_or(found: bool, x: u32, page: u32) -> bool
-    ensures { result ≡ (found || eqb x page) }
+// The loop has no early way out, so that several pages are compared at once.
+fn is_in(resident: &[u32], page: u32) -> bool
+    ensures { result ≡ is_in page resident.now }
 {
-    if x == page {
-        return true;
-    }
-    found
-}
-
-// Whether the page stands among the first n. The loop has no early way out, so that several pages are compared at once.
-fn is_in(resident: &[u32; 64], n: usize, page: u32) -> bool
-    requires { n ≤ 64 }
-    ensures { result ≡ is_in page (take n resident.now) }
-{
-    let all = &resident[..];
     let mut found = false;
-    let mut i = 0;
-    while i < n {
-        found = found_or(found, resident[i], page);
-        i += 1;
+    for x in resident {
+        found |= *x == page;
     }
     found
 }
 
 // The slot of a resident page.
-pub fn find(resident: &[u32; 64], n: usize, page: u32) -> Place
+pub fn find(resident: &[u32; 64], n: usize, page: u32) -> Option<usize>
     ensures { place_told result ≡ found_in page (take n resident.now) }
 {
-    let all = &resident[..];
     let m = held(n);
-    let mut i = 0;
-    while i < m {
-        if resident[i] == page {
-            return Place::At(i);
+    for (slot, x) in resident[..m].iter().enumerate() {
+        if *x == page {
+            return Some(slot);
         }
-        i += 1;
     }
-    Place::Nowhere
+    None
 }
 
-// The number and the count of a seat; nothing is changed.
-pub fn seat_no(resident: &[u32; 64], n: usize, size: usize, page: u32) -> Kept
-    ensures { result ≡ seat_kept (seated 64 4096 (frames_in resident.now n) size page) }
+// What `seat` answers; nothing is changed.
+pub fn check_seat(resident: &[u32; 64], n: usize, size: usize, page: u32) -> Result<usize, Refusal>
+    ensures { kept_in n result ≡ seat_kept (seated 64 4096 (frames_in resident.now n) size page) }
 {
-    let all = &resident[..];
     let m = held(n);
-    if is_in(&*resident, m, page) {
-        return Kept {
-            number: numbers::ACCEPTED,
-            count: n,
-        };
+    if is_in(&resident[..m], page) {
+        return Ok(n);
     }
-    let most = frame_count(size);
-    if most <= m {
-        return Kept {
-            number: numbers::FRAMES_FULL,
-            count: n,
-        };
+    if frame_count(size) <= m {
+        return Err(Refusal::FramesFull);
     }
-    Kept {
-        number: numbers::ACCEPTED,
-        count: m + 1,
-    }
+    Ok(m + 1)
 }
 
-// A page keeps its frame; a new one takes the next.
-pub fn seat(resident: &mut [u32; 64], n: usize, size: usize, page: u32) -> Kept
-    ensures { seated_in result.number resident.new result.count ≡ seated 64 4096 (frames_in resident.old n) size page }
+// A page keeps its frame; a new one takes the next: the count after it, or a refusal and nothing changed.
+pub fn seat(resident: &mut [u32; 64], n: usize, size: usize, page: u32) -> Result<usize, Refusal>
+    ensures { seated_by n result resident.new ≡ seated 64 4096 (frames_in resident.old n) size page }
 {
-    let all = &resident[..];
     let m = held(n);
-    if is_in(&*resident, m, page) {
-        return Kept {
-            number: numbers::ACCEPTED,
-            count: n,
-        };
+    if is_in(&resident[..m], page) {
+        return Ok(n);
     }
-    let most = frame_count(size);
-    if most <= m {
-        return Kept {
-            number: numbers::FRAMES_FULL,
-            count: n,
-        };
+    if frame_count(size) <= m {
+        return Err(Refusal::FramesFull);
     }
     resident[m] = page;
-    Kept {
-        number: numbers::ACCEPTED,
-        count: m + 1,
-    }
+    Ok(m + 1)
 }
 
 // ---- touched pages
 
 // How many pages come before the first that is not below this one.
-fn place(touched: &[u64; 64], n: usize, page: u64) -> usize
-    requires { n ≤ 64 }
-    ensures { result ≡ below_in page (take n touched.now) }
+fn place(touched: &[u64], page: u64) -> usize
+    ensures is { result ≡ below_in page touched.now }
+    ensures bound { result ≤ length touched.now }
 {
-    let all = &touched[..];
-    let mut i = 0;
-    while i < n {
-        if page <= touched[i] {
+    for (i, x) in touched.iter().enumerate() {
+        if page <= *x {
             return i;
         }
-        i += 1;
     }
-    i
+    touched.len()
 }
 
-// The pages from..to move up by one, and x goes to from. From the last down, so that none is written over before it has moved.
-fn shift(touched: &mut [u64; 64], from: usize, to: usize, x: u64)
-    requires { (from ≤ to) × (to < 64) }
-    ensures { touched.new ≡ take from touched.old ++ x ∷ take (to - from) (drop from touched.old) ++ drop (to + 1) touched.old }
+// What `mark` answers; nothing is changed.
+pub fn check_mark(touched: &[u64; 64], n: usize, page: u32) -> Result<usize, Refusal>
+    ensures { kept_in n result ≡ mark_kept (marked 64 (touched_in touched.now n) page) }
 {
-    let all = &touched[..];
-    let mut i = to;
-    while from < i {
-        touched[i] = touched[i - 1];
-        i -= 1;
-    }
-    touched[from] = x;
-}
-
-// The number and the count of a mark; nothing is changed.
-pub fn mark_no(touched: &[u64; 64], n: usize, page: u32) -> Kept
-    ensures { result ≡ mark_kept (marked 64 (touched_in touched.now n) page) }
-{
-    let all = &touched[..];
     let x = page as u64;
     let m = held(n);
-    let p = place(&*touched, m, x);
-    if p < m {
-        if touched[p] == x {
-            return Kept {
-                number: numbers::ACCEPTED,
-                count: m,
-            };
-        }
+    let p = place(&touched[..m], x);
+    if p < m && touched[p] == x {
+        return Ok(m);
     }
     if LIMIT <= m {
-        return Kept {
-            number: numbers::TOUCHED_FULL,
-            count: n,
-        };
+        return Err(Refusal::TouchedFull);
     }
-    Kept {
-        number: numbers::ACCEPTED,
-        count: m + 1,
-    }
+    Ok(m + 1)
 }
 
-// The page at its place, each once.
-pub fn mark(touched: &mut [u64; 64], n: usize, page: u32) -> Kept
-    ensures { marked_in result.number touched.new result.count ≡ marked 64 (touched_in touched.old n) page }
+// The page at its place, each once: the count after it, or a refusal and nothing changed.
+pub fn mark(touched: &mut [u64; 64], n: usize, page: u32) -> Result<usize, Refusal>
+    ensures { marked_by n result touched.new ≡ marked 64 (touched_in touched.old n) page }
 {
-    let all = &touched[..];
     let x = page as u64;
     let m = held(n);
-    let p = place(&*touched, m, x);
-    if p < m {
-        if touched[p] == x {
-            return Kept {
-                number: numbers::ACCEPTED,
-                count: m,
-            };
-        }
+    let p = place(&touched[..m], x);
+    if p < m && touched[p] == x {
+        return Ok(m);
     }
     if LIMIT <= m {
-        return Kept {
-            number: numbers::TOUCHED_FULL,
-            count: n,
-        };
+        return Err(Refusal::TouchedFull);
     }
-    shift(touched, p, m, x);
-    Kept {
-        number: numbers::ACCEPTED,
-        count: m + 1,
-    }
+    arrays::shift_in(&mut touched[p..m + 1], x);
+    Ok(m + 1)
 }
 
 // ---- a list of pages that is handed in
 
-fn is_climbing(pages: &[u32], n: usize) -> bool
-    requires { n ≤ length pages.now }
-    ensures { result ≡ ascending (take n pages.now) }
+fn is_climbing(pages: &[u32]) -> bool
+    ensures { result ≡ ascending pages.now }
 {
-    let mut i = 1;
-    while i < n {
-        if pages[i] <= pages[i - 1] {
-            return false;
-        }
-        i += 1;
-    }
-    true
+    pages.is_sorted_by(|x, y| *x < *y)
 }
 
-fn any_bad(pages: &[u32], n: usize) -> bool
-    requires { n ≤ length pages.now }
-    ensures { result ≡ any_bad (take n pages.now) }
+fn any_bad(pages: &[u32]) -> bool
+    ensures { result ≡ any_bad pages.now }
 {
-    let mut i = 0;
-    while i < n {
-        if numbers::NO_PAGE <= pages[i] {
+    for page in pages {
+        if numbers::NO_PAGE <= *page {
             return true;
         }
-        i += 1;
     }
     false
 }
@@ -252,26 +152,14 @@ fn any_bad(pages: &[u32], n: usize) -> bool
 pub fn list_formed(pages: &[u32]) -> bool
     ensures { result ≡ touched_formed 64 (touched_in pages.now (length pages.now)) }
 {
-    let n = pages.len();
-    if LIMIT < n {
-        return false;
-    }
-    if !is_climbing(pages, n) {
-        return false;
-    }
-    let bad = any_bad(pages, n);
-    !bad
+    pages.len() <= LIMIT && is_climbing(pages) && !any_bad(pages)
 }
 
 // The list over the front of the array; what there is no place for is left out.
 pub fn lay(touched: &mut [u64; 64], pages: &[u32])
     ensures { touched.new ≡ sets touched.old 0 pages.now }
 {
-    let all = &touched[..];
-    let k = held(pages.len());
-    let mut i = 0;
-    while i < k {
-        touched[i] = pages[i] as u64;
-        i += 1;
+    for i in 0..held(pages.len()) {
+        touched[i] = u64::from(pages[i]);
     }
 }

@@ -10,8 +10,7 @@ use Rattle.fields.specs.declared.TransactionId.{TransactionId}
 use Rattle.fields.specs.declared.CommitTime.{CommitTime}
 use Rattle.table.specs.declared.Status.TheVariants.{Committed}
 use Rattle.table.specs.declared.Entry.{Entry}
-use Rattle.table.specs.declared.Inserted.{Inserted}
-use Rattle.table.specs.Entries.{insert_entry, inserted}
+use Rattle.table.specs.Entries.{Inserted, insert_entry, inserted}
 use Rattle.meta.specs.declared.Counters.{Counters}
 use Rattle.meta.specs.Page.{meta_page}
 use Rattle.frames.specs.Pages as pages
@@ -36,8 +35,7 @@ use Rattle.form.specs.declared.Store.{Store}
 use Rattle.form.specs.Store.{entries_of, resident_of, mem_of, world_of, laid_store}
 use Rattle.form.proofs.Arrays.{Sized}
 use Rattle.form.proofs.Front.{InForm, front-means, touched-length, resident-are, touched-are}
-use Rattle.ready.specs.declared.Ready.{Ready}
-use Rattle.ready.specs.Ready.{readied, meta_of, refill_to, refill, idle}
+use Rattle.ready.specs.Ready.{Ready, readied, meta_of, refill_to, refill, idle}
 use Rattle.ready.specs.Inside.{ready_for}
 use Rattle.ready.proofs.Prepared.{ready-still}
 use Rattle.settle.specs.Inside.{counters_of, ended_store, sealed_as}

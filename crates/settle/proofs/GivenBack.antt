@@ -10,7 +10,7 @@ use mathlib.Core.List.{List, [], ◌∷◌}
 use mathlib.Core.Bool.{Bool, true, false}
 use lib.Dec.{eqb}
 use lib.ListN.{length, get_or, drop, length-map}
-use borrow.Author.Tests.{eqb-true, eqb-false, le-leb, lt-leb}
+use borrow.Author.Tests.{eqb-true, eqb-false}
 use lib.Seq.{sets, length-sets, ext_get_or}
 use Rattle.fields.specs.Files.{File, file_of, lay}
 use Rattle.fields.proofs.Tests.{Order, less, most, order}
@@ -28,12 +28,6 @@ use Rattle.ready.specs.Ready.{refill_to, refill}
 use Rattle.settle.specs.Inside.{past, raised_to, raised_by}
 
 -- ---- the page count past one page more
-
-pub past-none : (p n : ℕ) → 4294967295 ≤ p → n ≡ past p n
-past-none p n h = rw (le-leb 4294967295 p h)
-
-pub past_one : (p n k : ℕ) → p < 4294967295 → k ≡ max n (p + 1) → k ≡ past p n
-past_one p n k h e = rw (lt-leb 4294967295 p h) e
 
 pub raised-start : (x : Picked) (n : ℕ) → n ≡ raised_to x 0 n
 unfolding raised_to

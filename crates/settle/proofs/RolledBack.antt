@@ -13,8 +13,7 @@ use Rattle.fields.specs.declared.TransactionId.{TransactionId}
 use Rattle.fields.specs.Files.{File, lay}
 use Rattle.table.specs.declared.Status.TheVariants.{Aborted}
 use Rattle.table.specs.declared.Entry.{Entry}
-use Rattle.table.specs.declared.Inserted.{Inserted}
-use Rattle.table.specs.Entries.{insert_entry, inserted}
+use Rattle.table.specs.Entries.{Inserted, insert_entry, inserted}
 use Rattle.meta.specs.declared.Counters.{Counters}
 use Rattle.meta.specs.Page.{meta_page}
 use Rattle.meta.proofs.Laws.{length-meta}
@@ -40,8 +39,7 @@ use Rattle.form.specs.declared.Store.{Store}
 use Rattle.form.specs.Store.{entries_of, resident_of, touched_of, mem_of, world_of, laid_store}
 use Rattle.form.proofs.Arrays.{Sized}
 use Rattle.form.proofs.Front.{InForm, front-means, touched-length, resident-are, touched-are}
-use Rattle.ready.specs.declared.Ready.{Ready}
-use Rattle.ready.specs.Ready.{readied, meta_of, refill, idle}
+use Rattle.ready.specs.Ready.{Ready, readied, meta_of, refill, idle}
 use Rattle.ready.specs.Inside.{ready_for}
 use Rattle.ready.proofs.Prepared.{ready-still, ready-no}
 use Rattle.settle.specs.Inside.{counters_of, ended_store, raised_by, sealed_as}

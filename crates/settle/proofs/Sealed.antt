@@ -11,16 +11,14 @@ use Rattle.fields.specs.declared.CommitTime.{CommitTime}
 use Rattle.fields.specs.Files.{File}
 use Rattle.fields.proofs.Tests.{Order, less, most, order}
 use Rattle.table.specs.declared.Entry.{Entry}
-use Rattle.table.specs.declared.Inserted.{Inserted}
-use Rattle.table.specs.Entries.{insert_entry, list_of, laid, inserted}
+use Rattle.table.specs.Entries.{Inserted, insert_entry, list_of, laid, inserted}
 use Rattle.table.proofs.Facts.{accepted-fits, bounded-yes}
 use Rattle.meta.specs.Page.{meta_page}
 use Rattle.frames.specs.declared.Frames.{Frames}
-use Rattle.frames.specs.declared.Seated.{Seated}
-use Rattle.frames.specs.declared.Place.{Place}
-use Rattle.frames.specs.declared.Place.TheVariants.{At, Nowhere}
+use Rattle.std.specs.Prelude.{Option, Some, None}
+use Rattle.std.specs.Option.{unwrap_or}
 use Rattle.frames.specs.Pages as pages
-use Rattle.frames.specs.Pages.{is_in, slot_of, with_page, laid_frames, frame_count, place_told, found_in, seated}
+use Rattle.frames.specs.Pages.{is_in, slot_of, with_page, laid_frames, frame_count, place_told, found_in, Seated, seated}
 use Rattle.frames.specs.Copies.{with_frame}
 use Rattle.frames.proofs.Lists.{slot-absent, with-old, with-new}
 use Rattle.frames.proofs.Values.{at-means, nowhere-means, seat-old, seat-new, seat-full}
@@ -39,24 +37,17 @@ use Rattle.form.specs.declared.Store.{Store}
 use Rattle.form.specs.Store.{entries_of, resident_of, world_of, laid_store}
 use Rattle.form.proofs.Arrays.{Sized, length-first}
 use Rattle.form.proofs.Front.{front-means, entries-are, resident-length, resident-are, frames-same}
-use Rattle.ready.specs.declared.Ready.{Ready}
-use Rattle.ready.specs.Ready.{readied, meta_of, refill, files_to, idle, with_meta}
+use Rattle.ready.specs.Ready.{Ready, readied, meta_of, refill, files_to, idle, with_meta}
 use Rattle.ready.specs.Inside.{remembered, ready_for}
 use Rattle.ready.proofs.Prepared.{some-carried, meta-is, ready-as, front-call, ready-no, ready-short, call-hold}
 use Rattle.settle.specs.Inside.{ended_store, slot_for, sealed_store, unless, sealed_as}
 
 -- ---- the slot of a page's frame
 
-module _ (p : ℕ) (f : Frames) (place : Place) (told : place_told place ≡ found_in p (pages.resident_of f)) where
-  pub slot_at : (slot : ℕ) → place ≡ At slot → slot ≡ slot_for p f
-  unfolding slot_for
-  slot_at slot e =
-      let m = at-means p (pages.resident_of f) slot (sym (ap place_told e) ∙ told) in
-      rw m.0 m.1
-
-  pub slot_next : place ≡ Nowhere → f.count ≡ slot_for p f
-  unfolding slot_for
-  slot_next e = rw (nowhere-means p (pages.resident_of f) (sym (ap place_told e) ∙ told))
+pub slot-out : (p : ℕ) (f : Frames) (place : Option ℕ) → place_told place ≡ found_in p (pages.resident_of f) → unwrap_or place f.count ≡ slot_for p f
+unfolding slot_for
+slot-out p f (Some slot) told = let m = at-means p (pages.resident_of f) slot told in rw m.0 m.1
+slot-out p f None told = rw (nowhere-means p (pages.resident_of f) told)
 
 -- ---- a refusal on the way
 

@@ -5,6 +5,7 @@ use Rattle.fields.specs.declared.TransactionId.{TransactionId}
 use Rattle.fields.specs.declared.CommitTime.{CommitTime}
 use Rattle.meta.specs.declared.Counters.{Counters}
 use Rattle.table.specs.declared.Table.{Table}
+use Rattle.table.specs.Entries.{Inserted}
 use Rattle.frames.specs.declared.Frames.{Frames}
 use Rattle.frames.specs.Pages.{is_in, slot_of, bad_page, resident_of, seated}
 use Rattle.world.specs.declared.Slot.TheVariants.{Empty}
@@ -15,8 +16,7 @@ use Rattle.stores.specs.declared.Plan.{Plan}
 use Rattle.stores.specs.Plans.{meant}
 use Rattle.stores.specs.Room.{number_for}
 use Rattle.form.specs.declared.Store.{Store}
-use Rattle.ready.specs.declared.Ready.{Ready}
-use Rattle.ready.specs.Ready.{idle, with_meta}
+use Rattle.ready.specs.Ready.{Ready, idle, with_meta}
 
 -- the counters that page 0 gets
 abbrev pub counters_of : Store → Counters
@@ -48,6 +48,20 @@ marked_store s v =
       time = s.time;
       mark = v;
       table = s.table;
+      frames = s.frames;
+      held = s.held;
+    }
+
+-- with another table
+abbrev pub with_table : Store → Table → Store
+with_table s t =
+    record {
+      lens = s.lens;
+      pages = s.pages;
+      next = s.next;
+      time = s.time;
+      mark = s.mark;
+      table = t;
       frames = s.frames;
       held = s.held;
     }
@@ -93,3 +107,7 @@ sealed_as P s u tn plan back log db clog frames =
     let seat = seated 64 P s.frames (length frames) 0 in
     unless (number_for P (meant P frames plan) (files_of s.lens log db clog)) s
     (unless tn s (unless seat.number s (with_meta plan back (slot_for 0 s.frames) (sealed_store u seat.frames))))
+
+-- one that would leave u with the table that t has, or is refused with t's number
+abbrev pub sealed_by : ℕ → Store → Store → Inserted → Plan → Picked → List ℕ → List ℕ → List ℕ → List ℕ → Ready
+sealed_by P s u t plan back log db clog frames = sealed_as P s (with_table u t.table) t.number plan back log db clog frames

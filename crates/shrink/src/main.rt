@@ -6,236 +6,129 @@
 // missing file counts as empty; one that is longer than its buffer of 65,536 bytes gives 1.
 #![tactic(auto)]
 
-ghost use Rattle.std.specs.Prelude.{◌≤◌, length};
-
-use fields::{Answer, TransactionId};
-use meta::Stored;
+use fields::TransactionId;
 use std::env::{Env, FillError};
 use std::fs::{File, OpenFile};
 use std::io;
-use std::io::{ErrorKind, Read, Write};
+use std::io::{ErrorKind, Write};
 use std::rt::Files;
 
-// A file's length as far as it matters: more than the buffer has where the file is longer. Not readable where there is a file and it cannot be read.
-#[derive(Clone, Copy)]
-struct Fetched {
-    readable: bool,
-    len: usize,
-}
+const ROOM: usize = 65536;
 
-fn word(rt: &impl Print, text: &[u8]) -> io::Result<()> {
-    rt.write_all(text)
-}
+// What stands for the length of a file that is longer than its buffer.
+const LONGER: usize = 131072;
 
-fn line(rt: &impl Print, name: &[u8], n: u64) -> io::Result<()> {
-    word(rt, name)?;
-    println!(rt; " {n}")
-}
+// Where the base stands in a clog's second form.
+const BASE_AT: usize = 5;
 
 // ---- files
 
-// Reads until the buffer is full, the file ends or a read fails, and gives how many bytes are at the buffer's start.
-fn read_full(file: &mut impl Read, buf: &mut [u8]) -> usize
-    ensures { result ≤ length buf.new }
-{
-    let mut done = 0;
-    while done < buf.len() {
-        let n = read_some(file, &mut buf[done..]);
-        if n == 0 {
-            break;
-        }
-        done += n;
-    }
-    done
-}
-
-// A read that fails gives nothing, as at the end.
-fn read_some(file: &mut impl Read, buf: &mut [u8]) -> usize
-    ensures { result ≤ length buf.new }
-{
-    match file.read(buf) {
-        Ok(n) => n,
-        Err(_) => 0,
-    }
-}
-
-// One byte more is asked for: where a file goes on it is longer than its buffer, and where it cannot be read that shows at last.
-fn after(file: &mut impl Read, got: usize) -> Fetched {
-    let mut more = [0u8; 1];
-    match file.read(&mut more) {
-        Ok(0) => Fetched {
-            readable: true,
-            len: got,
-        },
-        Ok(_) => Fetched {
-            readable: true,
-            len: 131072,
-        },
-        Err(_) => Fetched {
-            readable: false,
-            len: 0,
-        },
-    }
-}
-
-// A missing file is an empty one; any other that cannot be opened is not.
-fn unopened(e: io::Error) -> Fetched {
-    Fetched {
-        readable: e.kind() == ErrorKind::NotFound,
-        len: 0,
-    }
-}
-
-// The file's bytes into the buffer.
-fn fetch(rt: &impl Files, name: &str, buf: &mut [u8]) -> Fetched {
-    match File::open(rt, name) {
-        Ok(mut file) => {
-            let got = read_full(&mut file, buf);
-            after(&mut file, got)
-        }
-        Err(e) => unopened(e),
-    }
-}
-
-// The first page of the database, or what there is of it.
-fn fetch_page(rt: &impl Files, buf: &mut [u8]) -> Fetched {
+// The first page of the database, or what there is of it. A missing file is an empty one; any other that cannot be opened is an error.
+fn fetch_page(rt: &impl Files, page: &mut [u8]) -> io::Result<usize> {
     match File::open(rt, "store.db") {
-        Ok(mut file) => Fetched {
-            readable: true,
-            len: read_full(&mut file, buf),
-        },
-        Err(e) => unopened(e),
+        Ok(mut file) => Ok(intake::read_full(&mut file, page)),
+        Err(e) if e.kind() == ErrorKind::NotFound => Ok(0),
+        Err(e) => Err(e),
     }
-}
-
-fn readable(rt: &impl Print, f: Fetched, name: &str) -> io::Result<bool> {
-    if !f.readable {
-        println!(rt; "{name} cannot be read")?;
-        return Ok(false);
-    }
-    Ok(true)
 }
 
 // The close of a file does not tell an error, so that the bytes are brought to the disk before.
-fn written(file: &mut (impl Write + OpenFile), bytes: &[u8]) -> bool {
-    match file.write_all(bytes) {
-        Ok(()) => file.sync_all().is_ok(),
-        Err(_) => false,
-    }
+fn write_through(file: &mut (impl Write + OpenFile), bytes: &[u8]) -> io::Result<()> {
+    file.write_all(bytes)?;
+    file.sync_all()
 }
 
-// A new file of the first n bytes; one that is there already stays as it is.
-fn keep(rt: &(impl Files + Print), name: &str, bytes: &[u8], n: usize) -> io::Result<()> {
-    let k = fields::smaller(n, bytes.len());
-    match File::create_new(rt, name) {
-        Ok(mut file) => {
-            if !written(&mut file, &bytes[..k]) {
-                return println!(rt; "{name} cannot be written");
-            }
-            println!(rt; "{name} is written")
-        }
-        Err(_) => println!(rt; "{name} is there already, or cannot be made"),
+// A new file of these bytes; one that is there already stays as it is.
+fn keep(rt: &(impl Files + Print), name: &str, bytes: &[u8]) -> io::Result<()> {
+    let Ok(mut file) = File::create_new(rt, name) else {
+        return println!(rt; "{name} is there already, or cannot be made");
+    };
+    if write_through(&mut file, bytes).is_err() {
+        return println!(rt; "{name} cannot be written");
     }
+    println!(rt; "{name} is written")
 }
 
 // ---- the moves
 
-fn number_of(a: Answer) -> u8 {
-    match a {
-        Answer::Accepted(_) => 0,
-        Answer::Refused(number) => number,
-    }
-}
-
-// Where no meta page stands the mark is 0, as for an opening.
-fn mark_of(s: Stored) -> u64 {
-    match s {
-        Stored::Meta(m) => m.mark.0,
-        Stored::Nothing => 0,
-        Stored::Outside => 0,
+// The mark of page 0. Where no meta page stands it is 0, as for an opening.
+fn mark_of(page: &[u8], len: usize) -> TransactionId {
+    match meta::read_meta(page, len) {
+        Ok(Some(m)) => m.mark,
+        Ok(None) | Err(_) => TransactionId(0),
     }
 }
 
 fn move_second(
     rt: &(impl Files + Print),
-    from: &mut [u8; 65536],
-    to: &mut [u8; 65536],
+    from: &mut [u8; ROOM],
+    to: &mut [u8; ROOM],
 ) -> io::Result<()> {
     let mut page = [0u8; 4096];
-    let p = fetch_page(rt, &mut page);
-    if !readable(rt, p, "store.db")? {
-        return Ok(());
+    let Ok(page_len) = fetch_page(rt, &mut page) else {
+        return println!(rt; "store.db cannot be read");
+    };
+    let Ok(read) = intake::fetch(rt, "store.db.clog", from) else {
+        return println!(rt; "store.db.clog cannot be read");
+    };
+    let old_len = read.unwrap_or(LONGER);
+    let mark = mark_of(&page[..], page_len);
+    match shrunk::to_second(&from[..], old_len, mark, to) {
+        Ok(n) => {
+            println!(rt; "second 0")?;
+            println!(rt; "mark {}", mark.0)?;
+            println!(rt; "base {}", fields::get_big_u64(&to[..], BASE_AT))?;
+            println!(rt; "old length {old_len}")?;
+            println!(rt; "new length {n}")?;
+            keep(rt, "store.db.clog.second", &to[..n.min(ROOM)])
+        }
+        Err(refusal) => println!(rt; "second {}", refusal.number()),
     }
-    let c = fetch(rt, "store.db.clog", from);
-    if !readable(rt, c, "store.db.clog")? {
-        return Ok(());
-    }
-    let stored = meta::read_meta(&page[..], p.len);
-    let mark = mark_of(stored);
-    let a = shrunk::to_second(&from[..], c.len, TransactionId(mark), to);
-    line(rt, b"second", number_of(a) as u64)?;
-    if number_of(a) != 0 {
-        return Ok(());
-    }
-    let n = fields::length_of(a);
-    line(rt, b"mark", mark)?;
-    line(rt, b"base", fields::get_big_u64(&to[..], 5))?;
-    line(rt, b"old length", c.len as u64)?;
-    line(rt, b"new length", n as u64)?;
-    keep(rt, "store.db.clog.second", &to[..], n)
 }
 
 fn move_first(
     rt: &(impl Files + Print),
-    from: &mut [u8; 65536],
-    to: &mut [u8; 65536],
+    from: &mut [u8; ROOM],
+    to: &mut [u8; ROOM],
 ) -> io::Result<()> {
-    let s = fetch(rt, "store.db.clog.second", from);
-    if !readable(rt, s, "store.db.clog.second")? {
-        return Ok(());
+    let Ok(read) = intake::fetch(rt, "store.db.clog.second", from) else {
+        return println!(rt; "store.db.clog.second cannot be read");
+    };
+    let new_len = read.unwrap_or(LONGER);
+    match shrunk::to_first(&from[..], new_len, to) {
+        Ok(n) => {
+            println!(rt; "first 0")?;
+            println!(rt; "base {}", fields::get_big_u64(&from[..], BASE_AT))?;
+            println!(rt; "new length {new_len}")?;
+            println!(rt; "old length {n}")?;
+            keep(rt, "store.db.clog.first", &to[..n.min(ROOM)])
+        }
+        Err(refusal) => println!(rt; "first {}", refusal.number()),
     }
-    let a = shrunk::to_first(&from[..], s.len, to);
-    line(rt, b"first", number_of(a) as u64)?;
-    if number_of(a) != 0 {
-        return Ok(());
-    }
-    let n = fields::length_of(a);
-    line(rt, b"base", fields::get_big_u64(&from[..], 5))?;
-    line(rt, b"new length", s.len as u64)?;
-    line(rt, b"old length", n as u64)?;
-    keep(rt, "store.db.clog.first", &to[..], n)
-}
-
-// Whether an argument is this word, and no longer one.
-fn is_word(text: &[u8], wanted: &[u8]) -> bool {
-    if text.len() != wanted.len() {
-        return false;
-    }
-    fields::begins(wanted, text)
 }
 
 fn one(
     rt: &(impl Files + Print),
     text: &[u8],
-    from: &mut [u8; 65536],
-    to: &mut [u8; 65536],
+    from: &mut [u8; ROOM],
+    to: &mut [u8; ROOM],
 ) -> io::Result<()> {
-    if is_word(text, b"second") {
+    if text == b"second".as_slice() {
         return move_second(rt, from, to);
     }
-    if is_word(text, b"first") {
+    if text == b"first".as_slice() {
         return move_first(rt, from, to);
     }
-    word(rt, text)?;
-    word(rt, b" is no move: second, or first\n")
+    rt.write_all(text)?;
+    println!(rt; " is no move: second, or first")
 }
 
 // Whether there is such an argument; its move is made. One that is longer than its buffer is an empty one, and no move.
 fn argument(
     rt: &(impl Env + Files + Print),
     i: usize,
-    from: &mut [u8; 65536],
-    to: &mut [u8; 65536],
+    from: &mut [u8; ROOM],
+    to: &mut [u8; ROOM],
 ) -> io::Result<bool> {
     let mut text = [0u8; 16];
     match rt.arg(i, &mut text) {
@@ -247,8 +140,8 @@ fn argument(
 }
 
 fn main(rt: HostRuntime) -> io::Result<()> {
-    let mut from = [0u8; 65536];
-    let mut to = [0u8; 65536];
+    let mut from = [0u8; ROOM];
+    let mut to = [0u8; ROOM];
     if !argument(&rt, 1, &mut from, &mut to)? {
         return move_second(&rt, &mut from, &mut to);
     }

@@ -18,7 +18,7 @@ use native.Mathlib.Omega.{arith}
 use lib.Dec.{lit<}
 use lib.ListN.{length, take, drop, length-drop}
 use lib.Seq.{sets-eq, take_at, length-take-le}
-use Rattle.fields.specs.declared.Answer.TheVariants.{Accepted}
+use Rattle.std.specs.Prelude.{Ok}
 use Rattle.fields.specs.Bytes.{Bytes, big_field}
 use Rattle.fields.specs.Files as files
 use Rattle.fields.specs.Files.{File, file_of, content, room}
@@ -59,7 +59,7 @@ written-len out ys = refl
 
 -- ---- the moves
 
-module _ (mark n : ℕ) (f : File) (out bs : List ℕ) (done : moved_second mark f out ≡ outcome (Accepted n) bs) where
+module _ (mark n : ℕ) (f : File) (out bs : List ℕ) (done : moved_second mark f out ≡ outcome (Ok n) bs) where
   second-file : (second_no mark f (length out) ≡ 0) × (file_of bs n ≡ written out (to_second mark (content f)))
   unfolding moved_second
   second-file =
@@ -80,7 +80,7 @@ module _ (mark n : ℕ) (f : File) (out bs : List ℕ) (done : moved_second mark
         same = rw second-bytes (sym (old-back mark (content f) m.3 l m.4));
       }
 
-module _ (n : ℕ) (g : File) (out bs : List ℕ) (done : moved_first g out ≡ outcome (Accepted n) bs) where
+module _ (n : ℕ) (g : File) (out bs : List ℕ) (done : moved_first g out ≡ outcome (Ok n) bs) where
   first-file : (first_no g (length out) ≡ 0) × (file_of bs n ≡ written out (to_first (content g)))
   unfolding moved_first
   first-file =
@@ -105,7 +105,7 @@ module _ (n : ℕ) (g : File) (out bs : List ℕ) (done : moved_first g out ≡ 
 
 module _ (mark n m : ℕ) (bs bs₂ out out₂ : List ℕ) where
   -- old to new to old
-  pub there_and_back : (f : File) → moved_second mark f out ≡ outcome (Accepted n) bs → moved_first (file_of bs n) out₂ ≡ outcome (Accepted m) bs₂
+  pub there_and_back : (f : File) → moved_second mark f out ≡ outcome (Ok n) bs → moved_first (file_of bs n) out₂ ≡ outcome (Ok m) bs₂
       → (m ≡ f.len) × (take m bs₂ ≡ content f)
   there_and_back f there back =
       let e : take m bs₂ ≡ content f = first-bytes m (file_of bs n) out₂ bs₂ back ∙ sym (second-moved mark n f out bs there).same in
@@ -115,7 +115,7 @@ module _ (mark n m : ℕ) (bs bs₂ out out₂ : List ℕ) where
 
   -- new to old to new, if the base is the one that the rule gives: n is the length of the old form, and n - 8 that of its body
   pub back-and-there : (g : File) → Bytes (content g) → base_of (content g) ≡ base_under mark (n - 8)
-      → moved_first g out ≡ outcome (Accepted n) bs → moved_second mark (file_of bs n) out₂ ≡ outcome (Accepted m) bs₂ → (m ≡ g.len) × (take m bs₂ ≡ content g)
+      → moved_first g out ≡ outcome (Ok n) bs → moved_second mark (file_of bs n) out₂ ≡ outcome (Ok m) bs₂ → (m ≡ g.len) × (take m bs₂ ≡ content g)
   back-and-there g b rule back there =
       let p = first-means g (length out) _ refl (first-file n g out bs back).0 in
       let k : length (drop 8 (to_first (content g))) ≡ n - 8 = length-drop 8 (to_first (content g)) ∙ ap (λ (x : ℕ). x - 8) (sym (first-length n g out bs back)) in
@@ -156,7 +156,7 @@ form-accepted f n z =
 
 -- ---- record
 
-module _ (id c n : ℕ) (g : File) (bs : List ℕ) (done : recorded_second g id c ≡ outcome (Accepted n) bs) where
+module _ (id c n : ℕ) (g : File) (bs : List ℕ) (done : recorded_second g id c ≡ outcome (Ok n) bs) where
   record-file : (form_no g (record_no 13 (base_of (content g)) id (room g) g.len) ≡ 0) × (file_of bs n ≡ relength (slotted id c g))
   unfolding recorded_second
   record-file =
@@ -180,7 +180,7 @@ module _ (id c n : ℕ) (g : File) (bs : List ℕ) (done : recorded_second g id 
         ap misfits w ∙ fits-ok (content (relength (slotted id c g))) (relength-fits (slotted id c g) s (content g) h k e (fits-means (content g) a.2)),
       )
 
-  pub record-both : (m : ℕ) (o : File) (cs : List ℕ) → recorded 8 0 o id c ≡ outcome (Accepted m) cs → TwoForms g o → TwoForms (file_of bs n) (file_of cs m)
+  pub record-both : (m : ℕ) (o : File) (cs : List ℕ) → recorded 8 0 o id c ≡ outcome (Ok m) cs → TwoForms g o → TwoForms (file_of bs n) (file_of cs m)
   record-both m o cs did two =
       let a = form-accepted g _ record-file.0 in
       let f = record-fits 13 (base_of (content g)) id (room g) g.len _ refl a.3 in
@@ -197,7 +197,7 @@ module _ (id c n : ℕ) (g : File) (bs : List ℕ) (done : recorded_second g id 
 
 -- ---- compact
 
-module _ (w n : ℕ) (g : File) (bs : List ℕ) (done : compacted_second g w ≡ outcome (Accepted n) bs) where
+module _ (w n : ℕ) (g : File) (bs : List ℕ) (done : compacted_second g w ≡ outcome (Ok n) bs) where
   compact-file : (form_no g 0 ≡ 0) × (file_of bs n ≡ clear_slots 13 (w - base_of (content g)) g)
   unfolding compacted_second
   compact-file =
@@ -214,7 +214,7 @@ module _ (w n : ℕ) (g : File) (bs : List ℕ) (done : compacted_second g w ≡
       let l : length (take n bs) ≡ length (content g) = length-take-le n bs (omega (arith, m, r, a.1)) ∙ m ∙ sym (content-length g a.1) in
       (m, base_same (content g) (take n bs) e, fits-ok (take n bs) (fits-same (content g) (take n bs) e l f))
 
-  pub compact-both : (m : ℕ) (o : File) (cs : List ℕ) → compacted 8 0 o w ≡ outcome (Accepted m) cs → TwoForms g o → TwoForms (file_of bs n) (file_of cs m)
+  pub compact-both : (m : ℕ) (o : File) (cs : List ℕ) → compacted 8 0 o w ≡ outcome (Ok m) cs → TwoForms g o → TwoForms (file_of bs n) (file_of cs m)
   compact-both m o cs did two =
       let a = form-accepted g 0 compact-file.0 in
       let p = compacted-file 8 0 w m o cs did in
@@ -238,7 +238,7 @@ load-number N g o two a b p q r =
     let e : in_use 13 (content g) ≡ in_use 8 (content o) = sym (many 13 (base_of (content g)) (content g)) ∙ ap length (sym (entries g o two)) ∙ many 8 0 (content o) in
     rw (fit-ok 13 (room g) g.len a b h, fit-ok 8 (room o) o.len p q r, e)
 
-module _ (N n : ℕ) (g : File) (t : Table) (bs : List ℕ) (done : loaded_second N g ≡ load_outcome (record { answer = Accepted n; table = t }) bs) where
+module _ (N n : ℕ) (g : File) (t : Table) (bs : List ℕ) (done : loaded_second N g ≡ load_outcome (record { answer = Ok n; table = t }) bs) where
   load-file : (form_no g (load_no N 13 g) ≡ 0) × (file_of bs n ≡ settled 13 g)
   unfolding loaded_second load_decided
   load-file = accepted-file (form_no g (load_no N 13 g)) n g (settled 13 g) bs (ap (λ (o : LoadOutcome). o.told) done) (ap (λ (o : LoadOutcome). o.bytes) done)
@@ -259,7 +259,7 @@ module _ (N n : ℕ) (g : File) (t : Table) (bs : List ℕ) (done : loaded_secon
       let l : length (take n bs) ≡ length (content g) = length-take-le n bs (omega (arith, m, r, a.1)) ∙ m ∙ sym (content-length g a.1) in
       (m, base_same (content g) (take n bs) e, fits-ok (take n bs) (fits-same (content g) (take n bs) e l f))
 
-  pub load-both : (m : ℕ) (o : File) (u : Table) (cs : List ℕ) → loaded N 8 0 o ≡ load_outcome (record { answer = Accepted m; table = u }) cs → TwoForms g o
+  pub load-both : (m : ℕ) (o : File) (u : Table) (cs : List ℕ) → loaded N 8 0 o ≡ load_outcome (record { answer = Ok m; table = u }) cs → TwoForms g o
       → (t ≡ u) × TwoForms (file_of bs n) (file_of cs m)
   unfolding loaded load_decided table_by
   load-both m o u cs did two =

@@ -1,5 +1,6 @@
 -- The laws of the crate's definitions, which callers' proofs cite.
 pub mod Handed
+pub mod Refused
 pub mod Pages
 pub mod Transactions
 pub mod Handing

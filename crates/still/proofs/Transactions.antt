@@ -9,6 +9,12 @@ use lib.ListN.{length, take, drop}
 use lib.Dec.{ltb, eqb}
 use lib.Seq.{sets, sets-eq, take_all}
 use borrow.Author.Tests.{lt-ltb, le-ltb, ne_eqb, eq-eqb}
+use Rattle.std.specs.Prelude.{Result}
+use Rattle.std.specs.Result.{IsErr, IsErrAnd}
+use Rattle.fields.specs.declared.refusal.Refusal.{Refusal}
+use Rattle.fields.specs.declared.refusal.Refusal.TheVariants.{BadPage}
+use Rattle.fields.specs.Refusals.{number_of}
+use Rattle.fields.proofs.AnswerLaws.{handed-on}
 use Rattle.fields.specs.declared.TransactionId.{TransactionId}
 use Rattle.fields.specs.Answers.{no_id}
 use Rattle.fields.proofs.Tests.{Order, less, most, order}
@@ -31,11 +37,15 @@ use Rattle.form.specs.Store.{mem_of, world_of, laid_store, outcome, called, Give
 use Rattle.form.proofs.Front.{InForm, front-means, entries-length, resident-length, touched-are, table_same, frames-same}
 use Rattle.form.proofs.Called.{refused-call, accepted-call, quiet}
 use Rattle.quiet.specs.Handed as handed
+use Rattle.quiet.proofs.Refused.{by-call, refused-with}
 use Rattle.quiet.proofs.Transactions as by_value
 use Rattle.lent.specs.declared.Head.{Head}
-use Rattle.lent.specs.Lent.{Lent, lent, held_of, own_of, store_of, odd, laid_lent, leaving, left_of, unless_odd, called_lent}
-use Rattle.lent.proofs.Laws.{Fit, sized, by-outcome, refused-left, first-left, head-back, rows_same, few-entries, few-touched, resident-same, touched-same}
-use Rattle.still.specs.Still.{beside, handed_out, id_allocated, page_allocated, taken, shortened, uninstalled}
+use Rattle.lent.specs.Lent.{Lent, lent, held_of, own_of, store_of, odd, laid_lent, leaving, left_of, called_lent}
+use Rattle.lent.proofs.Laws.{Fit, sized, by-outcome, refused-left, head-back, rows_same, few-entries, few-touched, resident-same, touched-same}
+use Rattle.still.specs.declared.Gone.{Gone}
+use Rattle.still.specs.Still.{beside, value_in, replied_in, handed_out, id_allocated, page_allocated, taken, no_gone, taken_of, shortened, uninstalled}
+use Rattle.still.specs.Entries.{first_no}
+use Rattle.still.proofs.Refused.{refusal-number, answered, refused-first}
 use Rattle.still.proofs.Handed.{handed-none, handed-some}
 
 -- ---- the list that is handed in
@@ -54,23 +64,15 @@ listed ps = go (order 64 (length ps))
     go (most h) =
         rw (touched-fit 64 (touched_in ps (length ps)) h, le-ltb 64 (length ps) h, take_all (length ps) ps (omega arith)) (not-both (pages.ascending ps) (any_bad ps))
 
--- ---- what the first test leaves, with something handed out beside it
+-- ---- what the first test leaves
 
-module _ (P : ℕ) (s : Lent) (log db clog frames : List ℕ) (n : ℕ)
-    (e : n ≡ unless_odd P s log db clog frames (λ k. k) (front_no P (world_of (store_of s) log db clog frames))) (h : n ≡ 0 → ⊥) where
-  pub id-first : beside no_id (leaving n s log db clog frames) ≡ id_allocated P s log db clog frames
-  unfolding id_allocated
-  id-first = handed-none s.head.next no_id _ (called_lent P AllocId s log db clog frames) (first-left P AllocId s log db clog frames n e h) h
-
-  pub page-first : beside 0 (leaving n s log db clog frames) ≡ page_allocated P s log db clog frames
-  unfolding page_allocated
-  page-first = handed-none s.head.pages 0 _ (called_lent P AllocPage s log db clog frames) (first-left P AllocPage s log db clog frames n e h) h
-
-module _ (P : ℕ) (out : List ℕ) (s : Lent) (log db clog frames : List ℕ) where
-  pub uninstall-first : (n : ℕ) → n ≡ unless_odd P s log db clog frames (λ k. k) (front_no P (world_of (store_of s) log db clog frames)) → (n ≡ 0 → ⊥) →
-      beside (taken 0 no_id 0 out) (leaving n s log db clog frames) ≡ uninstalled P out s log db clog frames
+module _ (P : ℕ) (out : List ℕ) (s : Lent) (log db clog frames : List ℕ) (r : Refusal) (e : number_of r ≡ first_no P s log db clog frames) where
+  -- where it is refused, nothing is handed out, whether the array is long enough or not
+  pub uninstall-first : (x : Result (Gone × Head) Refusal) → IsErr x × IsErrAnd x (λ q. q ≡ r) →
+      beside (taken_of (value_in no_gone x) out) (answered P s log db clog frames (replied_in s.head x)) ≡ uninstalled P out s log db clog frames
   unfolding uninstalled
-  uninstall-first n e h = rw (← first-left P Uninstall s log db clog frames n e h) (go n h)
+  uninstall-first x h =
+      rw (handed-on x r h, ← refused-first P s log db clog frames r e Uninstall) (go (number_of r) (refusal-number r))
     where
       go : (n : ℕ) → (n ≡ 0 → ⊥) →
           beside (taken 0 no_id 0 out) (leaving n s log db clog frames) ≡
@@ -151,8 +153,9 @@ module _ (P : ℕ) (s : Lent) (log db clog frames : List ℕ) (z : Fit s) (fine 
       (accepted-left AllocId _ _ (counts-laid s.head.pages (record { 0 = next64 s.head.next.0 })) id-called) s.head.next refl refl)
 
   page-none-called : 4294967295 ≤ u.pages → outcome (record { number = 10; store = u }) log db clog frames ≡ called P AllocPage u log db clog frames
-  unfolding handed.page_allocated
-  page-none-called h = ap (λ (g : Given ℕ). g.outcome) (by_value.page-none P u log db clog frames e0 h)
+  page-none-called h =
+      refused-with P AllocPage u log db clog frames u BadPage
+      (by-call P AllocPage u log db clog frames 10 (sym e0) (by_value.page-10 P u log db clog frames e0 h))
 
   pages-is : u.pages ≡ s.head.pages
   unfolding store_of

@@ -1,13 +1,17 @@
 -- What the calls with no store hand out beside what they leave, and what they hand out where they are refused. An odd store is refused as by every call, so nothing
 -- is handed out there. P is the page size. Assumes nothing.
-use Rattle.std.specs.Prelude.{ℕ, List, Bool, cond, length, take, ltb}
+use Rattle.std.specs.Prelude.{ℕ, List, Bool, cond, length, take, ltb, Result, Ok, Err}
+use Rattle.fields.specs.declared.refusal.Refusal.{Refusal}
+use Rattle.fields.specs.Refusals.{number_of}
 use Rattle.fields.specs.declared.TransactionId.{TransactionId}
 use Rattle.fields.specs.Answers.{no_id}
 use Rattle.sorted.specs.Sorted.{laid_on}
 use Rattle.world.specs.Calls.{Uninstall, AllocId, AllocPage, Read, held_page}
 use Rattle.world.specs.Run.{done, decided}
 use Rattle.form.specs.Store.{world_of}
-use Rattle.lent.specs.Lent.{Lent, store_of, Left, leaving, called_lent}
+use Rattle.lent.specs.declared.Head.{Head}
+use Rattle.lent.specs.Lent.{Lent, store_of, Reply, Left, leaving, called_lent}
+use Rattle.still.specs.declared.Gone.{Gone}
 
 -- a value, and what the call leaves
 pub record Beside (A : Type 0) : Type 0 where
@@ -16,6 +20,15 @@ pub record Beside (A : Type 0) : Type 0 where
 
 abbrev pub beside : {A : Type 0} → A → Left → Beside A
 beside a l = record { value = a; left = l }
+
+-- what a call answers that hands something out beside the head: b where it is refused
+abbrev pub value_in : {A : Type 0} → A → Result (A × Head) Refusal → A
+value_in b (Ok x) = x.0
+value_in b (Err r) = b
+
+abbrev pub replied_in : {A : Type 0} → Head → Result (A × Head) Refusal → Reply
+replied_in h (Ok x) = record { number = 0; head = x.1 }
+replied_in h (Err r) = record { number = number_of r; head = h }
 
 -- a where the call is accepted, else b
 abbrev pub handed_out : {A : Type 0} → A → A → Left → Beside A
@@ -44,6 +57,13 @@ pub record Taken : Type 0 where
 
 abbrev pub taken : ℕ → TransactionId → ℕ → List ℕ → Taken
 taken held id count out = record { held = held; id = id; count = count; out = out }
+
+-- no transaction, and what is handed out with the array
+abbrev pub no_gone : Gone
+no_gone = record { held = 0; id = no_id; count = 0 }
+
+abbrev pub taken_of : Gone → List ℕ → Taken
+taken_of g out = taken g.held g.id g.count out
 
 -- 13, and nothing changed, where an accepted call has no place for what it hands out
 abbrev pub shortened : Bool → Lent → List ℕ → List ℕ → List ℕ → List ℕ → Left → Left

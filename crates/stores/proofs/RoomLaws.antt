@@ -11,6 +11,9 @@ use lib.Dec.{ltb, lit<}
 use lib.ListN.{length, take, drop, get_or, length-map, get_or-map, drop_of_length-le}
 use lib.Seq.{drop-cons, take-nil}
 use Rattle.fields.specs.Files.{room, unfit}
+use Rattle.fields.specs.declared.refusal.Refusal.{Refusal}
+use Rattle.fields.specs.Refusals.{number_of}
+use Rattle.fields.proofs.AnswerLaws.{number-positive}
 use Rattle.fields.proofs.Tests.{passed}
 use Rattle.fields.proofs.FileLaws.{fit-means}
 use Rattle.wal.specs.Records.{encode}
@@ -129,6 +132,9 @@ pub or_else-first : (a b : ℕ) → (a ≡ 0 → ⊥) → a ≡ or_else a b
 or_else-first zero b h = absurd (h refl)
 or_else-first (suc a) b h = refl
 
+pub or_else-refused : (r : Refusal) (a b : ℕ) → number_of r ≡ a → number_of r ≡ or_else a b
+or_else-refused r a b e = e ∙ or_else-first a b (λ z. omega (arith, number-positive r, e, z))
+
 pub number_is : (P : ℕ) → 36 ≤ P → (fr : List ℕ) (p : Plan) (i : ℕ) (f : Files) → or_else (form_no (lens_of f) (room f.log) (room f.db) (room f.clog)) (short_no (needs_of P (drop i (meant P [] p))) f.log.len (room f.log) (room f.db) (room f.clog)) ≡ number_for P (drop i (meant P fr p)) f
 unfolding number_for room_no short_no
 number_is P big fr p i f =
@@ -224,9 +230,9 @@ module _ (P : ℕ) (ss : List world.Step) (k : ℕ) (f : Files) (n : ℕ) (no : 
   refused zero h = absurd (h refl)
   refused (suc m) h = refl
 
-  pub carried-refused : (n ≡ 0 → ⊥) → ◌≡◌ {A = Carried} (record { number = n; files = f }) (carried P ss k f)
+  pub carried-refused : (r : Refusal) → number_of r ≡ n → ◌≡◌ {A = Carried} (record { number = number_of r; files = f }) (carried P ss k f)
   unfolding carried
-  carried-refused h = rw (← no) (refused n h)
+  carried-refused r e = rw (← no, e) (refused n (λ z. omega (arith, number-positive r, e, z)))
 
   pub carried-done : (g : Files) → n ≡ 0 → g ≡ apply_all P (take k ss) f → ◌≡◌ {A = Carried} (record { number = 0; files = g }) (carried P ss k f)
   unfolding carried

@@ -8,8 +8,8 @@ use borrow.Author.Tests.{le-ltb}
 use lib.Dec.{ltb}
 use lib.ListN.{length, take, drop, get_or, replicate}
 use lib.Seq.{sets, length-sets}
-use Rattle.fields.specs.declared.Answer.{Answer}
-use Rattle.fields.specs.declared.Answer.TheVariants.{Accepted}
+use Rattle.std.specs.Prelude.{Result, Ok}
+use Rattle.fields.specs.declared.refusal.Refusal.{Refusal}
 use Rattle.fields.specs.Bytes.{part}
 use Rattle.fields.specs.Files.{File, file_of, room, lay, append, header, unfit}
 use Rattle.fields.specs.Answers.{length_of, outcome, decided}
@@ -32,11 +32,11 @@ use Rattle.stores.specs.Inside.{Enough}
 
 -- ---- a call on one file that is accepted
 
-accepted-file : (a : Answer) (bytes : List ℕ) (n : ℕ) (old new : File) → outcome a bytes ≡ decided n old new → n ≡ 0 → file_of bytes (length_of a) ≡ new
+accepted-file : (a : Result ℕ Refusal) (bytes : List ℕ) (n : ℕ) (old new : File) → outcome a bytes ≡ decided n old new → n ≡ 0 → file_of bytes (length_of a) ≡ new
 accepted-file a bytes n old new e z =
-    let q : outcome a bytes ≡ outcome (Accepted new.len) new.bytes = e ∙ sym (outcome-accepted new.len n old new new.bytes z refl) in
-    let s = outcome-same a (Accepted new.len) bytes new.bytes q in
-    ap (λ (x : Answer). file_of bytes (length_of x)) s.0 ∙ ap (λ (l : List ℕ). file_of l new.len) s.1
+    let q : outcome a bytes ≡ outcome (Ok new.len) new.bytes = e ∙ sym (outcome-accepted new.len n old new new.bytes z refl) in
+    let s = outcome-same a (Ok new.len) bytes new.bytes q in
+    ap (λ (x : Result ℕ Refusal). file_of bytes (length_of x)) s.0 ∙ ap (λ (l : List ℕ). file_of l new.len) s.1
 
 -- a page's frame, laid into the log after its tag and number, and into the database
 pub image-file : (P : ℕ) (page : ℕ) (bytes log out : List ℕ) (len : ℕ) → length bytes ≡ P → out ≡ sets log len (encode (image page bytes)) → file_of out (len + (5 + P)) ≡ append (file_of log len) (encode (image page bytes))
@@ -87,7 +87,7 @@ module _ (P : ℕ) (f : Files) (s : world.Step) where
     pub image-room : (p : ℕ) (ys : List ℕ) → s ≡ world.Log (image p ys) → length ys ≡ P → f.log.len + (5 + P) ≤ room f.log
     image-room p ys e l = omega (arith, log-room (image p ys) e, page-size P p ys l)
 
-    pub log-done : (r : Record) (a : Answer) (n : ℕ) (bytes : List ℕ) → s ≡ world.Log r → bad_page r ≡ false → outcome a bytes ≡ appended r f.log → n ≡ length_of a → log_out n bytes ≡ apply P s f
+    pub log-done : (r : Record) (a : Result ℕ Refusal) (n : ℕ) (bytes : List ℕ) → s ≡ world.Log r → bad_page r ≡ false → outcome a bytes ≡ appended r f.log → n ≡ length_of a → log_out n bytes ≡ apply P s f
     unfolding appended appended_bytes
     log-done r a n bytes e b o q =
         let h : length (encode r) ≤ room f.log - f.log.len = omega (arith, log-room r e) in
@@ -95,7 +95,7 @@ module _ (P : ℕ) (f : Files) (s : world.Step) where
         let g = accepted-file a bytes (append_no (bad_page r) (length (encode r)) (room f.log) f.log.len) f.log (append f.log (encode r)) o z in
         log-file r n bytes e (ap (λ (k : ℕ). file_of bytes k) q ∙ g)
 
-    pub truncate-done : (a : Answer) (n : ℕ) (bytes : List ℕ) → s ≡ world.Truncate → outcome a bytes ≡ truncated f.log → n ≡ length_of a → log_out n bytes ≡ apply P s f
+    pub truncate-done : (a : Result ℕ Refusal) (n : ℕ) (bytes : List ℕ) → s ≡ world.Truncate → outcome a bytes ≡ truncated f.log → n ≡ length_of a → log_out n bytes ≡ apply P s f
     unfolding truncated truncate_no apply sum_of
     truncate-done a n bytes e o q =
         let l : 8 ≤ room f.log = omega (arith, enough.log_fits, enough.log_header) in
@@ -106,7 +106,7 @@ module _ (P : ℕ) (f : Files) (s : world.Step) where
     clog-fit : clog.unfit 8 (room f.clog) f.clog.len ≡ false
     clog-fit = clog-laws.fit-ok 8 (room f.clog) f.clog.len enough.clog_limit enough.clog_len enough.clog_header
 
-    pub slot-done : (id : ℕ) (t : Status) (a : Answer) (n : ℕ) (bytes : List ℕ) → s ≡ world.SetSlot id t → outcome a bytes ≡ recorded 8 0 f.clog id (code_of t) → n ≡ length_of a → clog_out n bytes ≡ apply P s f
+    pub slot-done : (id : ℕ) (t : Status) (a : Result ℕ Refusal) (n : ℕ) (bytes : List ℕ) → s ≡ world.SetSlot id t → outcome a bytes ≡ recorded 8 0 f.clog id (code_of t) → n ≡ length_of a → clog_out n bytes ≡ apply P s f
     unfolding apply most_of
     slot-done id t a n bytes e o q =
         let i : id - 0 ≡ id = omega arith in
@@ -117,7 +117,7 @@ module _ (P : ℕ) (f : Files) (s : world.Step) where
         let g = accepted-file a bytes (record_no 8 0 id (room f.clog) f.clog.len) f.clog (set_slot 8 id (code_of t) f.clog) (o ∙ recorded-plain 8 id (code_of t) f.clog) z in
         ap (λ (h : File). with_clog h f) (ap (λ (k : ℕ). file_of bytes k) q ∙ g) ∙ sym (ap (λ (x : world.Step). apply P x f) e)
 
-    pub compact-done : (w : ℕ) (a : Answer) (n : ℕ) (bytes : List ℕ) → s ≡ world.Compact w → outcome a bytes ≡ compacted 8 0 f.clog w → n ≡ length_of a → clog_out n bytes ≡ apply P s f
+    pub compact-done : (w : ℕ) (a : Result ℕ Refusal) (n : ℕ) (bytes : List ℕ) → s ≡ world.Compact w → outcome a bytes ≡ compacted 8 0 f.clog w → n ≡ length_of a → clog_out n bytes ≡ apply P s f
     unfolding compact_no apply
     compact-done w a n bytes e o q =
         let z : ◌≡◌ {A = ℕ} (cond (clog.unfit 8 (room f.clog) f.clog.len) 1 0) 0 = rw clog-fit in

@@ -21,11 +21,13 @@ use Rattle.world.specs.World.{Files, files_of}
 use Rattle.world.specs.Steps.{apply, tell, tell_all, telling}
 use Rattle.stores.specs.declared.Plan.{Plan}
 use Rattle.stores.specs.declared.Telling.{Telling}
-use Rattle.stores.specs.declared.Telling.TheVariants.{Store, Nothing}
+use Rattle.std.specs.Prelude.{Option, Some, None, cond, eqb}
+use Rattle.stores.specs.declared.StoreKind.{StoreKind}
+use Rattle.stores.specs.declared.StoreKind.TheVariants.{Append, Page, Clog, Truncation}
 use Rattle.stores.specs.declared.Step.{Step}
 use Rattle.stores.specs.declared.Step.TheVariants.{LogImage, LogBegin, LogCommit, LogAbort, LogCheckpoint, WritePage, WriteMeta, SetSlot, Compact, Truncate}
 use Rattle.stores.specs.Plans.{steps_of, meaning, meant}
-use Rattle.stores.specs.Told.{telling_told, first_told, told_at, told_in}
+use Rattle.stores.specs.Told.{kind_number, telling_told, first_told, told_at, told_in}
 use Rattle.stores.specs.Inside.{told_by, lens_after, tell_steps}
 
 begin-size : (id : ℕ) → length (encode (begin id)) ≡ 9
@@ -150,15 +152,26 @@ module _ (P : ℕ) (big : 36 ≤ P) (p : Plan) (k : ℕ) (n : Lens) where
 
 -- ---- what is told is what the enum holds
 
-abbrev telling_of : List ℕ → Telling
-telling_of [] = Nothing
-telling_of (k ∷ []) = Nothing
-telling_of (k ∷ o ∷ []) = Nothing
-telling_of (k ∷ o ∷ n ∷ l) = Store k o n
+kind_of : ℕ → StoreKind
+kind_of n = cond (eqb n 1) Append (cond (eqb n 2) Page (cond (eqb n 3) Clog Truncation))
 
-untold : (t : Telling) → telling_of (telling_told t) ≡ t
-untold (Store k o n) = refl
-untold Nothing = refl
+kind-same : (k : StoreKind) → kind_of (kind_number k) ≡ k
+unfolding kind_of
+kind-same Append = refl
+kind-same Page = refl
+kind-same Clog = refl
+kind-same Truncation = refl
 
-pub telling-same : (a b : Telling) → telling_told a ≡ telling_told b → a ≡ b
+telling_of : List ℕ → Option Telling
+telling_of [] = None
+telling_of (k ∷ []) = None
+telling_of (k ∷ o ∷ []) = None
+telling_of (k ∷ o ∷ n ∷ l) = Some (record { kind = kind_of k; offset = o; size = n })
+
+untold : (t : Option Telling) → telling_of (telling_told t) ≡ t
+unfolding telling_of
+untold (Some t) = rw (kind-same t.kind)
+untold None = refl
+
+pub telling-same : (a b : Option Telling) → telling_told a ≡ telling_told b → a ≡ b
 telling-same a b e = sym (untold a) ∙ ap telling_of e ∙ untold b

@@ -1,7 +1,9 @@
 -- Stores carried out, or refused for lack of room with nothing changed. The numbers in their order: 1 a file's buffer over its limit or its length over its
 -- buffer; 14 a log or a clog shorter than its header, 8; 4, 5, 6 log, database, clog would outgrow its buffer, all the stores counted.
 -- P is the page size. Assumes nothing.
-use Rattle.std.specs.Prelude.{ℕ, List, cond, take, ltb}
+use Rattle.std.specs.Prelude.{ℕ, List, cond, take, ltb, Result, Ok, Err}
+use Rattle.fields.specs.declared.refusal.Refusal.{Refusal}
+use Rattle.fields.specs.Refusals.{number_of}
 use Rattle.fields.specs.Files.{room, unfit}
 use Rattle.world.specs.declared.Lens.{Lens}
 use Rattle.world.specs.World.{Files, files_of, lens_of}
@@ -9,7 +11,6 @@ use Rattle.world.specs.Steps as world
 use Rattle.world.specs.Steps.{apply_all}
 use Rattle.world.specs.Refusals.{or_else, room_no}
 use Rattle.world.specs.Run.{decided}
-use Rattle.stores.specs.declared.Cut.{Cut}
 
 -- ---- the numbers
 
@@ -31,6 +32,15 @@ number_for P ss f = or_else (form_no (lens_of f) (room f.log) (room f.db) (room 
 pub record Carried : Type 0 where
   pub number : ℕ
   pub files : Files
+
+-- where stores that were carried out stop: their number, and the lengths of the files; refused ones leave the lengths n
+pub record Cut : Type 0 where
+  pub number : ℕ
+  pub lens : Lens
+
+abbrev pub cut : Lens → Result Lens Refusal → Cut
+cut n (Ok at) = record { number = 0; lens = at }
+cut n (Err r) = record { number = number_of r; lens = n }
 
 abbrev pub cut_of : Cut → List ℕ → List ℕ → List ℕ → Carried
 cut_of r log db clog = record { number = r.number; files = files_of r.lens log db clog }

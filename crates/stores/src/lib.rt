@@ -2,10 +2,11 @@
 // specs/Plans.antt tells which stores a plan has and what they mean. Every public function is total: its contract is one equation.
 #![tactic(auto)]
 
-ghost use Rattle.std.specs.Prelude.{◌≡◌, [], ◌∷◌, ◌+◌, ◌-◌, ◌*◌, ◌<◌, ◌≤◌, length, take, drop, get_or};
+ghost use Rattle.std.specs.Prelude.{◌≡◌, Some, [], ◌∷◌, ◌+◌, ◌-◌, ◌*◌, ◌<◌, ◌≤◌, length, take, drop, get_or};
 ghost use Rattle.std.proofs.lemmas.List.Edits.{sets};
 ghost use Rattle.fields.specs.Bytes.{part};
 ghost use Rattle.fields.specs.Files.{file_of, lay, append};
+ghost use Rattle.fields.specs.Refusals.{number_in};
 ghost use Rattle.wal.specs.Records.{encode, image};
 ghost use Rattle.meta.specs.Page.{meta_page};
 ghost use Rattle.frames.specs.Copies.{frame_of};
@@ -13,11 +14,11 @@ ghost use Rattle.world.specs.World.{files_of};
 ghost use Rattle.world.specs.Steps.{apply, apply_all};
 ghost use Rattle.world.specs.Refusals.{or_else};
 ghost use Rattle.stores.specs.Plans.{begin_steps, flush_steps, commit_steps, rollback_steps, advance_steps, meta_step, steps_of, meaning, meant};
-ghost use Rattle.stores.specs.Room.{form_no, number_for, cut_of, carried};
+ghost use Rattle.stores.specs.Room.{form_no, number_for, cut, cut_of, carried};
 ghost use Rattle.stores.specs.Inside.{needing, needs_of, cost_of, short_no, Enough, lens, told_by, lens_after, tell_steps};
-ghost use Rattle.stores.specs.Told.{telling_told, first_told, told_in};
+ghost use Rattle.stores.specs.Told.{kind_number, telling_told, first_told, told_in};
 
-use fields::{Answer, CommitTime, TransactionId, numbers};
+use fields::{CommitTime, Refusal, TransactionId, numbers};
 use meta::Counters;
 use table::Status;
 use world::Lens;
@@ -66,13 +67,6 @@ pub struct Plan {
     pub meta: Counters,
 }
 
-// Where stores carried out stop: their number, 0 where they are accepted, and the lengths of the files.
-#[derive(Clone, Copy)]
-pub struct Cut {
-    pub number: u8,
-    pub lens: Lens,
-}
-
 // The room that stores need: bytes appended to the log, the furthest end in database and clog.
 #[derive(Clone, Copy)]
 struct Needs {
@@ -81,11 +75,33 @@ struct Needs {
     clog: usize,
 }
 
-// What is told of a store: its kind, offset and length. Kind 1 is a record appended, 2 a page written, 3 a clog change, 4 a truncation.
-#[derive(Clone, Copy)]
-pub enum Telling {
-    Store(u8, usize, usize),
-    Nothing,
+// What a store does to its file. Each kind has a number, by which a host is told it.
+#[derive(Clone, Copy, Debug, PartialEq, Eq)]
+pub enum StoreKind {
+    // A record is appended to the log.
+    Append = 1,
+    // A page of the database is written.
+    Page = 2,
+    // A slot of the clog is set, or slots of it are cleared.
+    Clog = 3,
+    // The log is cut back.
+    Truncation = 4,
+}
+
+impl StoreKind {
+    pub fn number(self) -> u8
+        ensures { result ≡ kind_number self }
+    {
+        self as u8
+    }
+}
+
+// What is told of a store: its kind, and the place and the number of bytes in its file.
+#[derive(Clone, Copy, Debug, PartialEq, Eq)]
+pub struct Telling {
+    pub kind: StoreKind,
+    pub offset: usize,
+    pub size: usize,
 }
 
 // ---- the stores of a plan
@@ -94,7 +110,7 @@ pub enum Telling {
 pub fn count(plan: Plan) -> usize
     ensures { result ≡ length (steps_of plan) }
 {
-    let n = fields::smaller(plan.n, LIMIT);
+    let n = plan.n.min(LIMIT);
     let kind = plan.kind;
     match kind {
         Kind::Nothing => 0,
@@ -223,7 +239,7 @@ fn meta_then(plan: Plan, j: usize) -> Step
 pub fn step_at(plan: Plan, k: usize) -> Step
     ensures { result ≡ get_or (steps_of plan) k Step.Truncate }
 {
-    let n = fields::smaller(plan.n, LIMIT);
+    let n = plan.n.min(LIMIT);
     let kind = plan.kind;
     match kind {
         Kind::Nothing => Step::Truncate,
@@ -268,7 +284,7 @@ fn put_page(db: &mut [u8], len: usize, page: u32, frames: &[u8], slot: usize) ->
     let at = page as usize * numbers::PAGE_SIZE;
     fields::zero_fill(db, len, at);
     lay_frame(db, at, frames, slot);
-    fields::larger(len, at + numbers::PAGE_SIZE)
+    len.max(at + numbers::PAGE_SIZE)
 }
 
 // Page 0 leaves no gap.
@@ -276,7 +292,7 @@ fn put_counters(db: &mut [u8], len: usize, m: Counters) -> usize
     ensures { file_of db.new result ≡ lay (file_of db.old len) 0 (meta_page 4096 m.next.0 m.time.0 m.mark.0) }
 {
     meta::put_meta(db, 0, m);
-    fields::larger(len, numbers::PAGE_SIZE)
+    len.max(numbers::PAGE_SIZE)
 }
 
 // The lengths in one line, so that a match over the stores has a line for each.
@@ -302,23 +318,19 @@ fn apply_step(
     let c = lens.clog;
     match step {
         Step::LogImage(page, slot) => lengths(put_image(log, l, page, frames, slot), d, c),
-        Step::LogBegin(id) => lengths(fields::length_of(wal::append_begin(log, l, id)), d, c),
+        Step::LogBegin(id) => lengths(wal::append_begin(log, l, id).unwrap_or(0), d, c),
         Step::LogCommit(id, time) => lengths(
-            fields::length_of(wal::append_commit(log, l, id, time)),
+            wal::append_commit(log, l, id, time).unwrap_or(0),
             d,
             c,
         ),
-        Step::LogAbort(id) => lengths(fields::length_of(wal::append_abort(log, l, id)), d, c),
-        Step::LogCheckpoint => lengths(fields::length_of(wal::append_checkpoint(log, l)), d, c),
+        Step::LogAbort(id) => lengths(wal::append_abort(log, l, id).unwrap_or(0), d, c),
+        Step::LogCheckpoint => lengths(wal::append_checkpoint(log, l).unwrap_or(0), d, c),
         Step::WritePage(page, slot) => lengths(l, put_page(db, d, page, frames, slot), c),
         Step::WriteMeta(m) => lengths(l, put_counters(db, d, m), c),
-        Step::SetSlot(id, status) => lengths(
-            l,
-            d,
-            fields::length_of(clog::record(clog, c, id, status)),
-        ),
-        Step::Compact(below) => lengths(l, d, fields::length_of(clog::compact(clog, c, below))),
-        Step::Truncate => lengths(fields::length_of(wal::truncate(log, l)), d, c),
+        Step::SetSlot(id, status) => lengths(l, d, clog::record(clog, c, id, status).unwrap_or(0)),
+        Step::Compact(below) => lengths(l, d, clog::compact(clog, c, below).unwrap_or(0)),
+        Step::Truncate => lengths(wal::truncate(log, l).unwrap_or(0), d, c),
     }
 }
 
@@ -356,75 +368,83 @@ fn cost(step: Step) -> Needs
 fn needed(plan: Plan, from: usize) -> Needs
     ensures { result ≡ needs_of 4096 (drop from (meant 4096 [] plan)) }
 {
-    let all = count(plan);
     let mut log = 0;
-    let mut db = 0;
-    let mut clog = 0;
-    let mut i = from;
-    while i < all {
+    let mut db: usize = 0;
+    let mut clog: usize = 0;
+    for i in from..count(plan) {
         let s = step_at(plan, i);
         let w = cost(s);
-        log = log + w.log;
-        db = fields::larger(db, w.db);
-        clog = fields::larger(clog, w.clog);
-        i += 1;
+        log += w.log;
+        db = db.max(w.db);
+        clog = clog.max(w.clog);
     }
     Needs { log, db, clog }
 }
 
-fn form_no(lens: Lens, log: usize, db: usize, clog: usize) -> u8
-    ensures { result ≡ form_no lens log db clog }
+fn check_lens(lens: Lens, log: usize, db: usize, clog: usize) -> Result<(), Refusal>
+    ensures { number_in result ≡ form_no lens log db clog }
 {
     if fields::is_unfit(numbers::BUFFER_LIMIT, log, lens.log) {
-        return numbers::UNFIT;
+        return Err(Refusal::Unfit);
     }
     if fields::is_unfit(numbers::BUFFER_LIMIT, db, lens.db) {
-        return numbers::UNFIT;
+        return Err(Refusal::Unfit);
     }
     if fields::is_unfit(numbers::CLOG_LIMIT, clog, lens.clog) {
-        return numbers::UNFIT;
+        return Err(Refusal::Unfit);
     }
     if lens.log < numbers::HEADER {
-        return numbers::OUT_OF_FORM;
+        return Err(Refusal::OutOfForm);
     }
     if lens.clog < numbers::HEADER {
-        return numbers::OUT_OF_FORM;
+        return Err(Refusal::OutOfForm);
     }
-    numbers::ACCEPTED
+    Ok(())
 }
 
-fn short_no(w: Needs, len: usize, log: usize, db: usize, clog: usize) -> u8
+fn check_space(w: Needs, len: usize, log: usize, db: usize, clog: usize) -> Result<(), Refusal>
     requires { len ≤ log }
-    ensures { result ≡ short_no w len log db clog }
+    ensures { number_in result ≡ short_no w len log db clog }
 {
     if log - len < w.log {
-        return numbers::LOG_FULL;
+        return Err(Refusal::LogFull);
     }
     if db < w.db {
-        return numbers::DATABASE_FULL;
+        return Err(Refusal::DatabaseFull);
     }
     if clog < w.clog {
-        return numbers::CLOG_FULL;
+        return Err(Refusal::ClogFull);
     }
-    numbers::ACCEPTED
+    Ok(())
 }
 
-fn number_for(plan: Plan, from: usize, lens: Lens, log: usize, db: usize, clog: usize) -> u8
-    ensures { result ≡ or_else (form_no lens log db clog) (short_no (needs_of 4096 (drop from (meant 4096 [] plan))) lens.log log db clog) }
+fn check_stores(
+    plan: Plan,
+    from: usize,
+    lens: Lens,
+    log: usize,
+    db: usize,
+    clog: usize,
+) -> Result<(), Refusal>
+    ensures { number_in result ≡ or_else (form_no lens log db clog) (short_no (needs_of 4096 (drop from (meant 4096 [] plan))) lens.log log db clog) }
 {
-    let number = form_no(lens, log, db, clog);
-    if number != numbers::ACCEPTED {
-        return number;
-    }
+    check_lens(lens, log, db, clog)?;
     let w = needed(plan, from);
-    short_no(w, lens.log, log, db, clog)
+    check_space(w, lens.log, log, db, clog)
 }
 
-// The number of a plan's stores on these files. The frames have no part in it; they are there because the stores are told with their bytes.
-pub fn room_no(plan: Plan, lens: Lens, log: &[u8], db: &[u8], clog: &[u8], frames: &[u8]) -> u8
-    ensures { result ≡ number_for 4096 (meant 4096 frames.now plan) (files_of lens log.now db.now clog.now) }
+// Whether a plan's stores have room in these files. The frames have no part in it; they are there because the stores are told with their bytes.
+pub fn check_room(
+    plan: Plan,
+    lens: Lens,
+    log: &[u8],
+    db: &[u8],
+    clog: &[u8],
+    frames: &[u8],
+) -> Result<(), Refusal>
+    ensures { number_in result ≡ number_for 4096 (meant 4096 frames.now plan) (files_of lens log.now db.now clog.now) }
 {
-    number_for(plan, 0, lens, log.len(), db.len(), clog.len())
+    check_stores(plan, 0, lens, log.len(), db.len(), clog.len())
 }
 
 // ---- several stores
@@ -443,14 +463,10 @@ fn carry(
     requires { Enough 4096 (drop from (meant 4096 frames.now plan)) (files_of lens log.old db.old clog.old) }
     ensures { files_of result log.new db.new clog.new ≡ apply_all 4096 (take (k - from) (drop from (meant 4096 frames.now plan))) (files_of lens log.old db.old clog.old) }
 {
-    let all = count(plan);
-    let stop = fields::smaller(k, all);
     let mut at = lens;
-    let mut i = from;
-    while i < stop {
+    for i in from..k.min(count(plan)) {
         let s = step_at(plan, i);
         at = apply_step(s, at, log, db, clog, frames);
-        i += 1;
     }
     at
 }
@@ -466,18 +482,11 @@ pub fn carry_on(
     db: &mut [u8],
     clog: &mut [u8],
     frames: &[u8],
-) -> Cut
-    ensures { cut_of result log.new db.new clog.new ≡ carried 4096 (drop from (meant 4096 frames.now plan)) (k - from) (files_of lens log.old db.old clog.old) }
+) -> Result<Lens, Refusal>
+    ensures { cut_of (cut lens result) log.new db.new clog.new ≡ carried 4096 (drop from (meant 4096 frames.now plan)) (k - from) (files_of lens log.old db.old clog.old) }
 {
-    let number = number_for(plan, from, lens, log.len(), db.len(), clog.len());
-    if number != numbers::ACCEPTED {
-        return Cut { number, lens };
-    }
-    let at = carry(plan, from, k, lens, log, db, clog, frames);
-    Cut {
-        number: numbers::ACCEPTED,
-        lens: at,
-    }
+    check_stores(plan, from, lens, log.len(), db.len(), clog.len())?;
+    Ok(carry(plan, from, k, lens, log, db, clog, frames))
 }
 
 // ---- what is told of a store
@@ -498,32 +507,28 @@ fn lens_after(step: Step, lens: Lens) -> Lens
         Step::LogCheckpoint => lengths(l + 1, d, c),
         Step::WritePage(_, _) => lens,
         Step::WriteMeta(_) => lens,
-        Step::SetSlot(id, _) => lengths(
-            l,
-            d,
-            fields::larger(c, numbers::HEADER + (id.0 / 4) as usize + 1),
-        ),
+        Step::SetSlot(id, _) => lengths(l, d, c.max(numbers::HEADER + (id.0 / 4) as usize + 1)),
         Step::Compact(_) => lens,
         Step::Truncate => lengths(numbers::HEADER, d, c),
     }
 }
 
 fn told_of(step: Step, lens: Lens) -> Telling
-    ensures { telling_told result ≡ first_told (told_by 4096 step lens ∷ []) }
+    ensures { telling_told (Some result) ≡ first_told (told_by 4096 step lens ∷ []) }
 {
-    let l = lens.log;
-    match step {
-        Step::LogImage(_, _) => Telling::Store(1, l, 4101),
-        Step::LogBegin(_) => Telling::Store(1, l, 9),
-        Step::LogCommit(_, _) => Telling::Store(1, l, 17),
-        Step::LogAbort(_) => Telling::Store(1, l, 9),
-        Step::LogCheckpoint => Telling::Store(1, l, 1),
-        Step::WritePage(page, _) => Telling::Store(2, page as usize * numbers::PAGE_SIZE, 4096),
-        Step::WriteMeta(_) => Telling::Store(2, 0, 4096),
-        Step::SetSlot(id, _) => Telling::Store(3, numbers::HEADER + (id.0 / 4) as usize, 1),
-        Step::Compact(below) => Telling::Store(3, 8, clog::span_below(lens.clog, below)),
-        Step::Truncate => Telling::Store(4, 0, 8),
-    }
+    let (kind, offset, size) = match step {
+        Step::LogImage(_, _) => (StoreKind::Append, lens.log, 4101),
+        Step::LogBegin(_) => (StoreKind::Append, lens.log, 9),
+        Step::LogCommit(_, _) => (StoreKind::Append, lens.log, 17),
+        Step::LogAbort(_) => (StoreKind::Append, lens.log, 9),
+        Step::LogCheckpoint => (StoreKind::Append, lens.log, 1),
+        Step::WritePage(page, _) => (StoreKind::Page, page as usize * numbers::PAGE_SIZE, 4096),
+        Step::WriteMeta(_) => (StoreKind::Page, 0, 4096),
+        Step::SetSlot(id, _) => (StoreKind::Clog, numbers::HEADER + (id.0 / 4) as usize, 1),
+        Step::Compact(below) => (StoreKind::Clog, 8, clog::span_below(lens.clog, below)),
+        Step::Truncate => (StoreKind::Truncation, 0, 8),
+    };
+    Telling { kind, offset, size }
 }
 
 // The lengths before the store at k.
@@ -532,30 +537,28 @@ fn lens_at(plan: Plan, k: usize, lens: Lens) -> Lens
     ensures { first_told (told_by 4096 (get_or (steps_of plan) k Step.Truncate) result ∷ []) ≡ first_told (drop k (tell_steps 4096 (steps_of plan) lens)) }
 {
     let mut at = lens;
-    let mut i = 0;
-    while i < k {
+    for i in 0..k {
         let s = step_at(plan, i);
         at = lens_after(s, at);
-        i += 1;
     }
     at
 }
 
 // Store k of a plan on files of these lengths, from 1 on: kind, offset, length.
-pub fn tell(plan: Plan, k: usize, lens: Lens) -> Telling
+pub fn tell(plan: Plan, k: usize, lens: Lens) -> Option<Telling>
     ensures { telling_told result ≡ told_in 4096 plan k lens }
 {
     if numbers::BUFFER_LIMIT < lens.log {
-        return Telling::Nothing;
+        return None;
     }
     if k == 0 {
-        return Telling::Nothing;
+        return None;
     }
     let all = count(plan);
     if all < k {
-        return Telling::Nothing;
+        return None;
     }
     let at = lens_at(plan, k - 1, lens);
     let s = step_at(plan, k - 1);
-    told_of(s, at)
+    Some(told_of(s, at))
 }

@@ -3,12 +3,11 @@ use Prim.Native.Nat.{ℕ, ◌≤◌, ◌<◌}
 use native.Mathlib.Omega.{arith}
 use mathlib.Core.Path.{◌≡◌, refl, sym, ap, subst, ◌∙◌}
 use mathlib.Core.List.{List, []}
-use mathlib.Core.Bool.{Bool}
 use lib.ListN.{length}
 use Rattle.fields.specs.Files.{File}
+use Rattle.fields.proofs.AnswerLaws.{number_in-same}
 use Rattle.table.specs.declared.Entry.{Entry}
 use Rattle.table.specs.Entries.{id_of, insert_all, settled_entry, active_to_aborted}
-use Rattle.rows.specs.declared.Counted.{Counted}
 use Rattle.rows.specs.Rows.{rowed_as, rowed, set_all}
 use Rattle.rows.proofs.Several.{insert-map-all, holding, all-fits, all-full}
 use Rattle.rows.proofs.Answers.{rowed-same}
@@ -36,12 +35,5 @@ survey-same r s a b o e h =
     let i : r.images ≡ s.images = ap (λ (x : Survey). x.images) g in
     let d : r.ids ≡ s.ids = ap (λ (x : Survey). x.ids) g in
     let k = rowed-same r.held s.held a b (rowed s.held b) (ap (λ (x : Survey). x.held) g) refl in
-    let n : r.ending ≡ s.ending = ap (λ (x : Survey). x.ending) g in
-    let u : Found = record { images = s.images; ids = r.ids; held = r.held; ending = r.ending } in
-    let v : Found = record { images = s.images; ids = s.ids; held = r.held; ending = r.ending } in
-    let w : Found = record { images = s.images; ids = s.ids; held = s.held; ending = r.ending } in
-    let ru : r ≡ u = ap (λ (x : Bool). record { images = x; ids = r.ids; held = r.held; ending = r.ending }) i in
-    let uv : u ≡ v = ap (λ (x : Bool). record { images = s.images; ids = x; held = r.held; ending = r.ending }) d in
-    let vw : v ≡ w = ap (λ (x : Counted). record { images = s.images; ids = s.ids; held = x; ending = r.ending }) k.0 in
-    let ws : w ≡ s = ap (λ (x : ℕ). record { images = s.images; ids = s.ids; held = s.held; ending = x }) n in
-    (ru ∙ uv ∙ vw ∙ ws, k.1)
+    let n = number_in-same r.ending s.ending (ap (λ (x : Survey). x.ending) g) in
+    (rw (i, d, k.0, n), k.1)

@@ -2,6 +2,7 @@
 -- id's byte lies past the clog's buffer (6), how the log ends, and the log's table, in rows that are lent: of each id its last status, where Active is Aborted at
 -- once, as no transaction goes on after an opening. From the 257th id on no row changes, 7; 5 and 6 are tested on. P is the page size. Assumes nothing.
 use Rattle.std.specs.Prelude.{ℕ, List, map, Bool, false, cond}
+use Rattle.fields.specs.Refusals.{number_in}
 use Rattle.fields.specs.Files.{File, room, unfit}
 use Rattle.table.specs.Entries.{active_to_aborted}
 use Rattle.rows.specs.Rows.{Rowed, rowed_as, rowed, set_all}
@@ -17,7 +18,7 @@ pub record Survey : Type 0 where
 
 -- what is answered, and the rows
 abbrev pub survey_of : Found → List (List ℕ) → Survey
-survey_of r rows = record { images = r.images; ids = r.ids; held = rowed r.held rows; ending = r.ending }
+survey_of r rows = record { images = r.images; ids = r.ids; held = rowed r.held rows; ending = number_in r.ending }
 
 -- nothing found; the number is that of the ending
 abbrev pub nothing : List (List ℕ) → ℕ → Survey

@@ -2,14 +2,14 @@
 // large is carried from record to record. The public function is total: its contract is one equation.
 #![tactic(auto)]
 
-ghost use Rattle.std.specs.Prelude.{◌≡◌, ◌+◌, ◌/◌, false, leb};
+ghost use Rattle.std.specs.Prelude.{◌≡◌, ◌+◌, ◌/◌, false, leb, Ok};
 ghost use Rattle.fields.specs.Files.{file_of};
 ghost use Rattle.scan.specs.Inside.{image_past};
 ghost use Rattle.survey.specs.Survey.{survey_of, surveyed};
 ghost use Rattle.survey.specs.Inside.{with_image, with_status, with_record, with_read};
 
-use fields::{TransactionId, numbers};
-use rows::Counted;
+use fields::{Refusal, TransactionId, numbers};
+use rows::Filled;
 use table::Status;
 use wal::{Read, WalRecord};
 
@@ -20,37 +20,35 @@ pub struct Found {
     pub images: bool,
     // An id's byte lies past the clog's buffer.
     pub ids: bool,
-    // How many rows are set; 7 where the statuses are of more than 256 ids.
-    pub held: Counted,
-    // How the log ends: 0 at its last byte, 2 or 3 at a bad record; 1 where the log is not read.
-    pub ending: u8,
+    // How many rows are set; refused where the statuses are of more than 256 ids.
+    pub held: Filled,
+    // How the log ends: at its last byte, or at a bad record; refused as unfit where the log is not read.
+    pub ending: Result<(), Refusal>,
 }
 
-fn unread(number: u8) -> Found
-    ensures { result ≡ record { images = false; ids = false; held = record { number = 0; count = 0 }; ending = number } }
+fn unread(ending: Result<(), Refusal>) -> Found
+    ensures { result ≡ record { images = false; ids = false; held = record { set = Ok tt; count = 0 }; ending = ending } }
 {
-    let held = Counted {
-        number: numbers::ACCEPTED,
+    let held = Filled {
+        set: Ok(()),
         count: 0,
     };
     Found {
         images: false,
         ids: false,
         held,
-        ending: number,
+        ending,
     }
 }
 
 // ---- one record
 
 // Whether the image of a page has no room in a database buffer of that size.
+#[tactic(auto, unfolding(scan::specs::Inside::image_past))]
 fn is_past_db(page: u32, size: usize) -> bool
     ensures { result ≡ image_past 4096 size page }
 {
-    if numbers::NO_PAGE <= page {
-        return true;
-    }
-    size < page as usize * numbers::PAGE_SIZE + numbers::PAGE_SIZE
+    numbers::NO_PAGE <= page || size < page as usize * numbers::PAGE_SIZE + numbers::PAGE_SIZE
 }
 
 // Whether the byte of an id lies past a clog buffer of that size.
@@ -60,15 +58,15 @@ fn is_past_clog(id: TransactionId, size: usize) -> bool
     size <= numbers::HEADER + (id.0 / 4) as usize
 }
 
+#[tactic(auto, unfolding(crate::specs::Inside::with_image))]
 fn on_image(s: Found, rows: &mut [[u64; 3]; 256], db: usize, page: u32) -> Found
     ensures { survey_of result rows.new ≡ with_image 4096 db page (survey_of s rows.old) }
 {
-    if is_past_db(page, db) {
-        return Found { images: true, ..s };
-    }
-    s
+    let images = is_past_db(page, db) || s.images;
+    Found { images, ..s }
 }
 
+#[tactic(auto, unfolding(crate::specs::Inside::with_status))]
 fn on_status(
     s: Found,
     rows: &mut [[u64; 3]; 256],
@@ -78,16 +76,9 @@ fn on_status(
 ) -> Found
     ensures { survey_of result rows.new ≡ with_status clog (record { id = id; status = status }) (survey_of s rows.old) }
 {
-    let h = s.held;
-    let held = rows::hold(rows, h, id, status);
-    if is_past_clog(id, clog) {
-        return Found {
-            ids: true,
-            held,
-            ..s
-        };
-    }
-    Found { held, ..s }
+    let held = rows::hold(rows, s.held, id, status);
+    let ids = is_past_clog(id, clog) || s.ids;
+    Found { ids, held, ..s }
 }
 
 fn on_record(s: Found, rows: &mut [[u64; 3]; 256], db: usize, clog: usize, r: WalRecord) -> Found
@@ -109,11 +100,11 @@ fn on_read(s: Found, rows: &mut [[u64; 3]; 256], db: usize, clog: usize, r: Read
         Read::Found(found, _) => on_record(s, rows, db, clog, found),
         Read::End => s,
         Read::Torn(_) => Found {
-            ending: numbers::TORN,
+            ending: Err(Refusal::Torn),
             ..s
         },
         Read::Unknown => Found {
-            ending: numbers::UNKNOWN_TAG,
+            ending: Err(Refusal::UnknownTag),
             ..s
         },
         Read::Outside => s,
@@ -127,10 +118,11 @@ pub fn survey(log: &[u8], len: usize, db: usize, clog: usize, rows: &mut [[u64; 
     ensures { survey_of result rows.new ≡ surveyed 4096 db clog (file_of log.now len) rows.old }
 {
     if fields::is_unfit(numbers::BUFFER_LIMIT, log.len(), len) {
-        return unread(numbers::UNFIT);
+        return unread(Err(Refusal::Unfit));
     }
     let mut at = wal::start_of(log, len);
-    let mut s = unread(numbers::ACCEPTED);
+    let mut s = unread(Ok(()));
+    // No `for`: each turn goes on by what it has read.
     while at < len {
         let r = wal::read_record(log, len, at);
         s = on_read(s, rows, db, clog, r);

@@ -1,12 +1,13 @@
 -- Laws of a clog gone over: zero bytes hold no entry and stay as they are, so that they can be passed over; what a turn of each pass does. Assumes nothing.
 use Prim.Native.Nat.{ℕ, zero, suc, ◌+◌, ◌*◌, ◌-◌, ◌/◌, ◌%◌, ◌≤◌, ◌<◌, min}
 use native.Mathlib.Nat.{add-zero}
+use native.Mathlib.Numerals.{add-one}
 use native.Mathlib.Omega.{arith}
 use mathlib.Core.Path.{◌≡◌, refl, sym, ap, ◌∙◌}
 use mathlib.Core.List.{List, [], ◌∷◌, ◌++◌, map}
 use mathlib.Core.Bool.{true, false}
 use lib.ListN.{length, take, drop, get_or, set, length-take, drop_of_length-le}
-use lib.Seq.{drop-cons, drop-drop, length-take-le, sets, slice, get_or-take}
+use lib.Seq.{drop-cons, drop-drop, length-take-le, sets, slice, slice-cons, take-set-lt, drop-set-lt, get_or-take}
 use borrow.Author.Tests.{eq-eqb, ne_eqb}
 use Rattle.fields.proofs.Tests.{Order, less, most, order, Equal, equal, other, equality}
 use Rattle.fields.specs.Files.{File, file_of, content, room, unfit}
@@ -15,7 +16,6 @@ use Rattle.table.specs.declared.Entry.{Entry}
 use Rattle.rows.specs.Rows.{Rowed, rowed_as, held_row, set_all}
 use Rattle.clog.specs.Slots.{bits_of, codes, entry_of, entries_from, entries_in, valid_clog, loaded_status, settled_code, settled_byte, settled}
 use Rattle.clog.proofs.ZeroLaws.{entries-zeros}
-use Rattle.clog.proofs.Ways.{settle-turn}
 use Rattle.opening.proofs.Tables.{clog-none, clog-held}
 use Rattle.sweeps.specs.Sweeps.{listed}
 use Rattle.sweeps.specs.Inside.{zeros, busy_from, in_byte, next_from}
@@ -147,7 +147,21 @@ module _ (clog : File) (rows : List (List ℕ)) where
   unfolding listed
   listed-held u v r e = rw (u, clog-held clog v) e
 
--- ---- the pass that settles
+-- ---- the pass that settles: what a turn does, and where it ends; n is the length, no longer than the buffer
+
+slice-past : (l : List ℕ) (i n : ℕ) → n ≤ i → slice i n l ≡ []
+slice-past l i n h = let e : length (take n l) ≤ i = rw length-take (omega arith) in drop_of_length-le (take n l) e
+
+slice_set : (l : List ℕ) (i n v : ℕ) → i < n → slice (suc i) n (set l i v) ≡ slice (suc i) n l
+slice_set l i n v h = rw (take-set-lt n l i v h, drop-set-lt (suc i) (take n l) i v (omega arith))
+
+module _ (l : List ℕ) (i n : ℕ) where
+  pub settle-turn : i < n → n ≤ length l → (v : ℕ) → v ≡ settled_byte (get_or l i 0)
+      → sets (set l i v) (i + 1) (map settled_byte (slice (i + 1) n (set l i v))) ≡ sets l i (map settled_byte (slice i n l))
+  settle-turn h f v e = rw (add-one, slice_set l i n v h, slice-cons i n l 0 h f, e)
+
+  pub settle-end : n ≤ i → sets l i (map settled_byte (slice i n l)) ≡ l
+  settle-end h = rw (slice-past l i n h)
 
 set_same : (l : List ℕ) (i : ℕ) → get_or l i 0 ≡ 0 → i < length l → set l i 0 ≡ l
 set_same [] i e h = absurd (omega arith)

@@ -5,29 +5,24 @@
 ghost use Rattle.std.specs.Prelude.{◌≡◌, map, ◌+◌, ◌≤◌, ◌<◌, ◌^◌, length, take, drop};
 ghost use Rattle.std.proofs.lemmas.List.Edits.{sets};
 ghost use Rattle.fields.specs.Files.{file_of};
+ghost use Rattle.fields.specs.Refusals.{number_in};
 ghost use Rattle.rows.specs.Rows.{rowed, rowed_as, set_all};
 ghost use Rattle.clog.specs.Slots.{entry_of, entries_in, loaded_status, settled_code, settled_byte, settled};
 ghost use Rattle.sweeps.specs.Sweeps.{listed};
 ghost use Rattle.sweeps.specs.Inside.{free, busy_from, in_byte, next_from};
 
-use fields::{CommitTime, TransactionId, numbers};
-use rows::Counted;
+use fields::{Refusal, TransactionId, numbers};
+use rows::Filled;
 use table::Status;
 
 // ---- zero bytes
 
 // Whether eight bytes stand from i on, and all are 0.
+#[tactic(auto, unfolding(crate::specs::Inside::free))]
 fn is_free(s: &[u8], i: usize) -> bool
     ensures { result ≡ free s.now i }
 {
-    let n = s.len();
-    if n < 8 {
-        return false;
-    }
-    if n - 8 < i {
-        return false;
-    }
-    fields::get_u64(s, i) == 0
+    8 <= s.len() && i <= s.len() - 8 && fields::get_u64(s, i) == 0
 }
 
 // The first place from `at` on that no eight zero bytes begin at, if one goes on by eight.
@@ -36,10 +31,9 @@ fn past_free(s: &[u8], at: usize) -> usize
     ensures { (at ≤ result) × (result ≤ length s.now) × (busy_from s.now result ≡ busy_from s.now at) }
 {
     let mut i = at;
-    let mut go = is_free(s, i);
-    while go {
+    // No `for`: it goes on by eight, as long as what it reads is free.
+    while is_free(s, i) {
         i += 8;
-        go = is_free(s, i);
     }
     i
 }
@@ -49,41 +43,31 @@ fn next_busy(s: &[u8], at: usize) -> usize
     requires { at ≤ length s.now }
     ensures { result ≡ busy_from s.now at }
 {
+    // By the index: with the zeros of the rest counted by take_while, settling a clog was a sixth slower.
     let n = s.len();
-    let mut i = past_free(s, at);
-    while i < n {
+    for i in past_free(s, at)..n {
         if s[i] != 0 {
             return i;
         }
-        i += 1;
     }
-    i
+    n
 }
 
 // ---- the entries listed
 
-fn loaded_status(c: u8) -> Status
-    ensures { result ≡ loaded_status c }
-{
-    if c == 2 {
-        return Status::Committed(CommitTime(0));
-    }
-    Status::Aborted
-}
-
 // The entry of a slot set, if the slot is not 0.
-fn note_slot(rows: &mut [[u64; 3]; 256], h: Counted, id: u64, c: u8) -> Counted
+fn note_slot(rows: &mut [[u64; 3]; 256], h: Filled, id: u64, c: u8) -> Filled
     ensures { rowed result rows.new ≡ set_all 256 (rowed h rows.old) (entry_of id c) }
 {
     if c == 0 {
         return h;
     }
-    let status = loaded_status(c);
+    let status = clog::loaded_status(c);
     rows::hold(rows, h, TransactionId(id), status)
 }
 
 // The entries of a byte set, the first slot of which is that of the id.
-fn note_byte(rows: &mut [[u64; 3]; 256], h: Counted, id: u64, b: u8) -> Counted
+fn note_byte(rows: &mut [[u64; 3]; 256], h: Filled, id: u64, b: u8) -> Filled
     requires { id < 2 ^ 63 }
     ensures { rowed result rows.new ≡ set_all 256 (rowed h rows.old) (in_byte id b) }
 {
@@ -94,47 +78,48 @@ fn note_byte(rows: &mut [[u64; 3]; 256], h: Counted, id: u64, b: u8) -> Counted
 }
 
 // Where to go on after the byte i. Once an entry was refused no other can be set: the pass ends.
-fn next_place(s: &[u8], i: usize, number: u8) -> usize
+fn next_place(s: &[u8], i: usize, set: Result<(), Refusal>) -> usize
     requires { i < length s.now }
-    ensures { result ≡ next_from s.now i number }
+    ensures { result ≡ next_from s.now i (number_in set) }
 {
-    if number != numbers::ACCEPTED {
+    if set.is_err() {
         return s.len();
     }
     next_busy(s, i + 1)
 }
 
-fn list_in(s: &[u8], rows: &mut [[u64; 3]; 256]) -> Counted
+fn list_in(s: &[u8], rows: &mut [[u64; 3]; 256]) -> Filled
     requires { (8 ≤ length s.now) × (length s.now ≤ 1048576) }
     ensures { rowed result rows.new ≡ set_all 256 (rowed_as 0 0 rows.old) (entries_in 8 0 s.now) }
 {
     let n = s.len();
-    let mut h = Counted {
-        number: numbers::ACCEPTED,
+    let mut h = Filled {
+        set: Ok(()),
         count: 0,
     };
     let mut i = next_busy(s, numbers::HEADER);
+    // No `for`: each turn goes on by what it has read.
     while i < n {
         let id = (4 * (i - numbers::HEADER)) as u64;
         h = note_byte(rows, h, id, s[i]);
-        i = next_place(s, i, h.number);
+        i = next_place(s, i, h.set);
     }
     h
 }
 
-pub fn list(clog: &[u8], len: usize, rows: &mut [[u64; 3]; 256]) -> Counted
+pub fn list(clog: &[u8], len: usize, rows: &mut [[u64; 3]; 256]) -> Filled
     ensures { rowed result rows.new ≡ listed rows.old (file_of clog.now len) }
 {
     if fields::is_unfit(numbers::CLOG_LIMIT, clog.len(), len) {
-        return Counted {
-            number: numbers::UNFIT,
+        return Filled {
+            set: Err(Refusal::Unfit),
             count: 0,
         };
     }
     let s = &clog[..len];
     if !fields::begins(b"AEROCLG1", s) {
-        return Counted {
-            number: numbers::ACCEPTED,
+        return Filled {
+            set: Ok(()),
             count: 0,
         };
     }
@@ -143,30 +128,14 @@ pub fn list(clog: &[u8], len: usize, rows: &mut [[u64; 3]; 256]) -> Counted
 
 // ---- Active becomes Aborted
 
-fn settled_code(c: u8) -> u8
-    requires { c < 4 }
-    ensures { (result ≡ settled_code c) × (result < 4) }
-{
-    if c == 1 { 3 } else { c }
-}
-
-fn settled_byte(b: u8) -> u8
-    ensures { result ≡ settled_byte b }
-{
-    let c0 = settled_code(b % 4);
-    let c1 = settled_code(b / 4 % 4);
-    let c2 = settled_code(b / 16 % 4);
-    let c3 = settled_code(b / 64 % 4);
-    c0 + 4 * c1 + 16 * c2 + 64 * c3
-}
-
 fn settle_in(clog: &mut [u8], len: usize)
     requires { (8 ≤ len) × (len ≤ length clog.old) }
     ensures { clog.new ≡ sets clog.old 8 (map settled_byte (drop 8 (take len clog.old))) }
 {
     let mut i = next_busy(&clog[..len], numbers::HEADER);
+    // No `for`: each turn goes on by what it has read.
     while i < len {
-        let b = settled_byte(clog[i]);
+        let b = clog::settled_byte(clog[i]);
         clog[i] = b;
         i = next_busy(&clog[..len], i + 1);
     }
@@ -176,7 +145,7 @@ fn settle_in(clog: &mut [u8], len: usize)
 pub fn settle(clog: &mut [u8], len: usize)
     ensures { clog.new ≡ (settled 8 (file_of clog.old len)).bytes }
 {
-    let n = fields::smaller(len, clog.len());
+    let n = len.min(clog.len());
     if numbers::HEADER <= n {
         settle_in(clog, n);
     }

@@ -4,15 +4,14 @@
 -- A table is an array and a count, and is read as the list of its first count entries. A changed table is its list laid in front of the array:
 -- entries after the last stay as they were.
 -- The definitions take the limit as a parameter, N. Order, insertion and look-up are those of the crate sorted, at an entry's id.
-use Rattle.std.specs.Prelude.{ℕ, ◌+◌, ◌-◌, ◌^◌, min, max, List, [], ◌∷◌, map, Bool, cond, ◌&&◌, length, take, replicate, leb}
+use Rattle.std.specs.Prelude.{ℕ, ◌+◌, ◌-◌, ◌^◌, min, max, List, [], ◌∷◌, map, Bool, cond, ◌&&◌, length, take, replicate, leb, Option, Some, None, Result, Ok, Err}
+use Rattle.fields.specs.declared.refusal.Refusal.{Refusal}
+use Rattle.fields.specs.Refusals.{number_of}
 use Rattle.sorted.specs.Sorted.{Hit, miss, hit, laid_on, insert_by, insert_all_by, look_by, ascending_by}
 use Rattle.table.specs.declared.Status.{Status}
 use Rattle.table.specs.declared.Status.TheVariants.{Active, Committed, Aborted}
 use Rattle.table.specs.declared.Entry.{Entry}
 use Rattle.table.specs.declared.Table.{Table}
-use Rattle.table.specs.declared.Known.{Known}
-use Rattle.table.specs.declared.Known.TheVariants.{Is, Absent}
-use Rattle.table.specs.declared.Inserted.{Inserted}
 
 -- ---- a table and its list
 
@@ -47,18 +46,28 @@ abbrev pub ascending : List Entry → Bool
 ascending l = ascending_by id_of l
 
 -- what a look-up says of the status
-abbrev pub known_of : Hit Entry → Known
-known_of miss = Absent
-known_of (hit e) = Is e.status
+abbrev pub known_of : Hit Entry → Option Status
+known_of miss = None
+known_of (hit e) = Some e.status
 
 -- the status of the first entry with this id
-unfoldable pub status_of : ℕ → List Entry → Known
+unfoldable pub status_of : ℕ → List Entry → Option Status
 status_of k l = known_of (look_by id_of k l)
 
 unfoldable pub well_formed : ℕ → Table → Bool
 well_formed N t = leb t.count N && ascending (list_of t)
 
 -- ---- a table is set
+
+-- the number that is told, and the table afterwards
+pub record Inserted : Type 0 where
+  pub number : ℕ
+  pub table : Table
+
+-- what a result tells of the table t: a refusal leaves it as it was
+abbrev pub inserted_of : Table → Result Table Refusal → Inserted
+inserted_of t (Ok u) = record { number = 0; table = u }
+inserted_of t (Err r) = record { number = number_of r; table = t }
 
 -- the table with the entries l; refused with 7, and the table as it was, where they are more than N
 unfoldable pub bounded : ℕ → Table → List Entry → Inserted

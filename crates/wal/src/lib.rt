@@ -6,13 +6,14 @@ ghost use Rattle.std.specs.Prelude.{◌≡◌, ◌∷◌, ◌++◌, true, false,
 ghost use Rattle.std.proofs.lemmas.List.Edits.{sets};
 ghost use Rattle.fields.specs.Bytes.{bytes_of};
 ghost use Rattle.fields.specs.Files.{file_of};
+ghost use Rattle.fields.specs.Refusals.{number_in};
 ghost use Rattle.fields.specs.Answers.{outcome};
 ghost use Rattle.wal.specs.Records.{body_of, record_of, encode, image, begin, commit, abort, checkpoint};
 ghost use Rattle.wal.specs.Reading.{read_told, read_in, start_in, IsImage};
 ghost use Rattle.wal.specs.Inside.{shown, record_place, read_place};
 ghost use Rattle.wal.specs.Writing.{append_no, appended_bytes, appended, truncated};
 
-use fields::{Answer, CommitTime, TransactionId, numbers};
+use fields::{CommitTime, Refusal, TransactionId, numbers};
 
 const PAGE_IMAGE_TAG: u8 = 1;
 
@@ -35,7 +36,7 @@ pub enum WalRecord {
     Checkpoint,
 }
 
-// What reading at a place finds.
+// What reading at a place finds. Each case has its own number and values; as a Result of an Option a match would have the same five arms, two layers deep.
 #[derive(Clone, Copy)]
 pub enum Read {
     // A whole record, and the place after it.
@@ -116,10 +117,7 @@ fn record_place(r: WalRecord) -> usize
 {
     match r {
         WalRecord::Image(_, place) => place,
-        WalRecord::Begin(_) => 0,
-        WalRecord::Commit(_, _) => 0,
-        WalRecord::Abort(_) => 0,
-        WalRecord::Checkpoint => 0,
+        _ => 0,
     }
 }
 
@@ -129,10 +127,7 @@ fn read_place(r: Read) -> usize
 {
     match r {
         Read::Found(found, _) => record_place(found),
-        Read::End => 0,
-        Read::Torn(_) => 0,
-        Read::Unknown => 0,
-        Read::Outside => 0,
+        _ => 0,
     }
 }
 
@@ -152,9 +147,8 @@ pub fn image(log: &[u8], len: usize, at: usize) -> &[u8]
 pub fn start_of(log: &[u8], len: usize) -> usize
     ensures { result ≡ start_in (file_of log.now len) }
 {
-    let end = fields::smaller(len, log.len());
-    let s = &log[..end];
-    if fields::begins(b"AEROWAL2", s) {
+    let end = len.min(log.len());
+    if fields::begins(b"AEROWAL2", &log[..end]) {
         return numbers::HEADER;
     }
     end
@@ -162,20 +156,20 @@ pub fn start_of(log: &[u8], len: usize) -> usize
 
 // ---- the writer
 
-// The number of an append of size bytes; bad says that the page number is none.
-fn append_no(cap: usize, len: usize, size: usize, bad: bool) -> u8
-    ensures { result ≡ append_no bad size cap len }
+// Whether size bytes may be appended; bad says that the page number is none.
+fn check_append(cap: usize, len: usize, size: usize, bad: bool) -> Result<(), Refusal>
+    ensures { number_in result ≡ append_no bad size cap len }
 {
     if fields::is_unfit(numbers::BUFFER_LIMIT, cap, len) {
-        return numbers::UNFIT;
+        return Err(Refusal::Unfit);
     }
     if bad {
-        return numbers::BAD_PAGE;
+        return Err(Refusal::BadPage);
     }
     if cap - len < size {
-        return numbers::LOG_FULL;
+        return Err(Refusal::LogFull);
     }
-    numbers::ACCEPTED
+    Ok(())
 }
 
 fn put_id(log: &mut [u8], at: usize, tag: u8, id: TransactionId)
@@ -187,50 +181,46 @@ fn put_id(log: &mut [u8], at: usize, tag: u8, id: TransactionId)
 }
 
 // Begin and abort: a tag and an id.
-fn append_id(log: &mut [u8], len: usize, tag: u8, id: TransactionId) -> Answer
+fn append_id(log: &mut [u8], len: usize, tag: u8, id: TransactionId) -> Result<usize, Refusal>
     ensures { outcome result log.new ≡ appended_bytes false (tag ∷ bytes_of 8 id.0) (file_of log.old len) }
 {
-    let number = append_no(log.len(), len, 9, false);
-    if number != numbers::ACCEPTED {
-        return Answer::Refused(number);
-    }
+    check_append(log.len(), len, 9, false)?;
     put_id(log, len, tag, id);
-    Answer::Accepted(len + 9)
+    Ok(len + 9)
 }
 
-pub fn append_begin(log: &mut [u8], len: usize, id: TransactionId) -> Answer
+pub fn append_begin(log: &mut [u8], len: usize, id: TransactionId) -> Result<usize, Refusal>
     ensures { outcome result log.new ≡ appended (begin id.0) (file_of log.old len) }
 {
     append_id(log, len, TX_BEGIN_TAG, id)
 }
 
-pub fn append_abort(log: &mut [u8], len: usize, id: TransactionId) -> Answer
+pub fn append_abort(log: &mut [u8], len: usize, id: TransactionId) -> Result<usize, Refusal>
     ensures { outcome result log.new ≡ appended (abort id.0) (file_of log.old len) }
 {
     append_id(log, len, TX_ABORT_TAG, id)
 }
 
-pub fn append_commit(log: &mut [u8], len: usize, id: TransactionId, time: CommitTime) -> Answer
+pub fn append_commit(
+    log: &mut [u8],
+    len: usize,
+    id: TransactionId,
+    time: CommitTime,
+) -> Result<usize, Refusal>
     ensures { outcome result log.new ≡ appended (commit id.0 time.0) (file_of log.old len) }
 {
-    let number = append_no(log.len(), len, 17, false);
-    if number != numbers::ACCEPTED {
-        return Answer::Refused(number);
-    }
+    check_append(log.len(), len, 17, false)?;
     put_id(log, len, TX_COMMIT_TAG, id);
     fields::put_u64(log, len + 9, time.0);
-    Answer::Accepted(len + 17)
+    Ok(len + 17)
 }
 
-pub fn append_checkpoint(log: &mut [u8], len: usize) -> Answer
+pub fn append_checkpoint(log: &mut [u8], len: usize) -> Result<usize, Refusal>
     ensures { outcome result log.new ≡ appended checkpoint (file_of log.old len) }
 {
-    let number = append_no(log.len(), len, 1, false);
-    if number != numbers::ACCEPTED {
-        return Answer::Refused(number);
-    }
+    check_append(log.len(), len, 1, false)?;
     log[len] = CHECKPOINT_TAG;
-    Answer::Accepted(len + 1)
+    Ok(len + 1)
 }
 
 fn put_page(log: &mut [u8], at: usize, page: u32, bytes: &[u8])
@@ -242,28 +232,29 @@ fn put_page(log: &mut [u8], at: usize, page: u32, bytes: &[u8])
     fields::lay(log, at + 5, bytes);
 }
 
-pub fn append_page(log: &mut [u8], len: usize, page: u32, bytes: &[u8; 4096]) -> Answer
+pub fn append_page(
+    log: &mut [u8],
+    len: usize,
+    page: u32,
+    bytes: &[u8; 4096],
+) -> Result<usize, Refusal>
     ensures { outcome result log.new ≡ appended (image page bytes.now) (file_of log.old len) }
 {
-    let data = &bytes[..];
-    let number = append_no(log.len(), len, 4101, page == numbers::NO_PAGE);
-    if number != numbers::ACCEPTED {
-        return Answer::Refused(number);
-    }
-    put_page(log, len, page, data);
-    Answer::Accepted(len + 4101)
+    check_append(log.len(), len, 4101, page == numbers::NO_PAGE)?;
+    put_page(log, len, page, bytes);
+    Ok(len + 4101)
 }
 
 // The log cut back to its magic; bytes past it stay.
-pub fn truncate(log: &mut [u8], len: usize) -> Answer
+pub fn truncate(log: &mut [u8], len: usize) -> Result<usize, Refusal>
     ensures { outcome result log.new ≡ truncated (file_of log.old len) }
 {
     if fields::is_unfit(numbers::BUFFER_LIMIT, log.len(), len) {
-        return Answer::Refused(numbers::UNFIT);
+        return Err(Refusal::Unfit);
     }
     if log.len() < numbers::HEADER {
-        return Answer::Refused(numbers::LOG_FULL);
+        return Err(Refusal::LogFull);
     }
     fields::lay(log, 0, b"AEROWAL2");
-    Answer::Accepted(numbers::HEADER)
+    Ok(numbers::HEADER)
 }

@@ -5,7 +5,9 @@ use mathlib.Core.Path.{◌≡◌, refl, ap, ◌∙◌}
 use mathlib.Core.List.{List, [], ◌∷◌}
 use lib.ListN.{length}
 use Rattle.lent.specs.declared.Head.{Head}
-use Rattle.lent.specs.Lent.{Left, leaving, lent}
+use Rattle.std.specs.Prelude.{Result}
+use Rattle.fields.specs.declared.refusal.Refusal.{Refusal}
+use Rattle.lent.specs.Lent.{Left, leaving, lent, replied}
 use Rattle.words.specs.Words.{head_in, words_of, standing, standing_of}
 
 pub head-back : (h : Head) → head_in (words_of h) ≡ h
@@ -36,3 +38,11 @@ pub stood : (f : Head → Left) (h₀ h : Head) (ws₀ ws : List ℕ) (n : ℕ) 
 unfolding standing_of
 stood f h₀ h ws₀ ws n rows resident touched log db clog frames e w q =
     rw w (ap standing_of (q ∙ ap f e))
+
+-- the same where a result is answered
+pub answered : (f : Head → Left) (h₀ : Head) (r : Result Head Refusal) (ws₀ ws : List ℕ) (n : ℕ) (rows : List (List ℕ)) (resident touched log db clog frames : List ℕ) →
+    h₀ ≡ head_in ws₀ → n ≡ (replied (head_in ws₀) r).number → ws ≡ words_of (replied (head_in ws₀) r).head →
+    leaving (replied h₀ r).number (lent (replied h₀ r).head rows resident touched) log db clog frames ≡ f h₀ →
+    standing n ws rows resident touched log db clog frames ≡ standing_of (f (head_in ws₀))
+unfolding standing_of
+answered f h₀ r ws₀ ws n rows resident touched log db clog frames e m w q = rw (m, w, ← e) (ap standing_of q)

@@ -3,17 +3,16 @@
 #![tactic(auto)]
 
 ghost use Rattle.std.specs.Prelude.{◌≡◌};
+ghost use Rattle.lent.specs.Lent.{replied};
 ghost use Rattle.words.specs.Words.{head_in, words_of};
 
-use fields::{CommitTime, TransactionId};
+use fields::{CommitTime, Refusal, TransactionId, numbers};
 use lent::Head;
 use world::Lens;
 
 pub fn head_in(head: &[u64; 12]) -> Head
     ensures { result ≡ head_in head.now }
 {
-    // Nothing reads this slice: with it the proof knows that there are twelve words.
-    let all = &head[..];
     let lens = Lens {
         log: head[0] as usize,
         db: head[1] as usize,
@@ -47,4 +46,18 @@ pub fn put_head(head: &mut [u64; 12], h: Head)
         log, db, clog, h.pages, h.next.0, h.time.0, h.mark.0, h.held, h.id.0, entries, resident,
         touched,
     ];
+}
+
+// What a call answers, for a host: the words of the head after it, and its number. A refused call leaves the words as they are.
+pub fn answer(head: &mut [u64; 12], r: Result<Head, Refusal>) -> u8
+    ensures number { result ≡ (replied (head_in head.old) r).number }
+    ensures words { head.new ≡ words_of (replied (head_in head.old) r).head }
+{
+    match r {
+        Ok(after) => {
+            put_head(head, after);
+            numbers::ACCEPTED
+        }
+        Err(refusal) => refusal.number(),
+    }
 }

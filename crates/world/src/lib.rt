@@ -3,7 +3,7 @@
 
 use fields::TransactionId;
 
-// The place of a store's transaction: installed, or none.
+// The place of a store's transaction: installed, or none. It is no Option<TransactionId>, since the theorems KeyOff and KeyTurn are stated over these two names.
 #[derive(Clone, Copy)]
 pub enum Slot {
     Installed(TransactionId),

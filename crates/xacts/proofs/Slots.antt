@@ -8,7 +8,7 @@ use native.Mathlib.Omega.{arith}
 use lib.Dec.{ltb, leb, eqb, lit<}
 use lib.ListN.{length, drop, get_or, length-drop, drop_of_length-le}
 use lib.Seq.{drop-nil, drop-cons, get_or-drop}
-use borrow.Author.Tests.{eq-eqb, ne_eqb, eqb-false, le-ltb, lt-ltb, le-leb, lt-leb}
+use borrow.Author.Tests.{ne_eqb, eqb-false, le-ltb, lt-ltb, lt-leb}
 use Rattle.fields.proofs.Tests.{neither}
 use Rattle.clog.specs.Slots.{bits_of, slot_of, codes}
 use Rattle.clog.proofs.Codes.{length-codes, codes-slot}
@@ -62,45 +62,10 @@ has-four c (suc (suc (suc (suc w)))) a0 a1 a2 a3 =
     let v = suc (suc (suc (suc w))) in
     rw (drop-nil {A = ℕ} w, lt-leb v 3 (omega arith), lt-leb v 2 (omega arith), lt-leb v 1 (omega arith), lt-leb v 0 (omega arith))
 
--- by division and remainder, as the code asks: one law for each way out
-module _ (c w b : ℕ) where
-  four-tests : has c (drop w (four_of b)) ≡ tests c w (b % 4) (b / 4 % 4) (b / 16 % 4) (b / 64 % 4)
-  unfolding bits_of
-  four-tests = let e : b / 1 % 4 ≡ b % 4 = omega arith in has-four c w (b / 1 % 4) (b / 4 % 4) (b / 16 % 4) (b / 64 % 4) ∙ rw e
-
-  pub none-from-3 : 3 < w → false ≡ has c (drop w (four_of b))
-  none-from-3 h = rw (four-tests, lt-leb w 3 h, lt-leb w 2 (omega arith), lt-leb w 1 (omega arith), lt-leb w 0 (omega arith))
-
-  module _ (at-3 : w ≤ 3) where
-    pub is-3 : b / 64 % 4 ≡ c → true ≡ has c (drop w (four_of b))
-    is-3 e = rw (four-tests, le-leb w 3 at-3, eq-eqb (b / 64 % 4) c e)
-
-    module _ (not-3 : b / 64 % 4 ≡ c → ⊥) where
-      pub none-from-2 : 2 < w → false ≡ has c (drop w (four_of b))
-      none-from-2 h = rw (four-tests, le-leb w 3 at-3, ne_eqb (b / 64 % 4) c not-3, lt-leb w 2 h, lt-leb w 1 (omega arith), lt-leb w 0 (omega arith))
-
-      module _ (at-2 : w ≤ 2) where
-        pub is-2 : b / 16 % 4 ≡ c → true ≡ has c (drop w (four_of b))
-        is-2 e = rw (four-tests, le-leb w 3 at-3, ne_eqb (b / 64 % 4) c not-3, le-leb w 2 at-2, eq-eqb (b / 16 % 4) c e)
-
-        module _ (not-2 : b / 16 % 4 ≡ c → ⊥) where
-          -- what is left to ask
-          rest : has c (drop w (four_of b)) ≡ ((leb w 1 && eqb (b / 4 % 4) c) || (leb w 0 && eqb (b % 4) c))
-          rest = rw (four-tests, le-leb w 3 at-3, ne_eqb (b / 64 % 4) c not-3, le-leb w 2 at-2, ne_eqb (b / 16 % 4) c not-2)
-
-          pub none-from-1 : 1 < w → false ≡ has c (drop w (four_of b))
-          none-from-1 h = rw (rest, lt-leb w 1 h, lt-leb w 0 (omega arith))
-
-          module _ (at_1 : w ≤ 1) where
-            pub is-1 : b / 4 % 4 ≡ c → true ≡ has c (drop w (four_of b))
-            is-1 e = rw (rest, le-leb w 1 at_1, eq-eqb (b / 4 % 4) c e)
-
-            module _ (not-1 : b / 4 % 4 ≡ c → ⊥) where
-              pub none-from-0 : 0 < w → false ≡ has c (drop w (four_of b))
-              none-from-0 h = rw (rest, le-leb w 1 at_1, ne_eqb (b / 4 % 4) c not-1, lt-leb w 0 h)
-
-              pub is-0 : w ≤ 0 → eqb (b % 4) c ≡ has c (drop w (four_of b))
-              is-0 h = rw (rest, le-leb w 1 at_1, ne_eqb (b / 4 % 4) c not-1, le-leb w 0 h)
+-- by division and remainder, as the code asks
+pub four-tests : (c w b : ℕ) → has c (drop w (four_of b)) ≡ tests c w (b % 4) (b / 4 % 4) (b / 16 % 4) (b / 64 % 4)
+unfolding bits_of
+four-tests c w b = let e : b / 1 % 4 ≡ b % 4 = omega arith in has-four c w (b / 1 % 4) (b / 4 % 4) (b / 16 % 4) (b / 64 % 4) ∙ rw e
 
 -- ---- the loop over the bytes: the byte decides, or the rest does
 

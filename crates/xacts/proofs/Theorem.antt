@@ -8,8 +8,8 @@ use lib.Dec.{lit≤}
 use lib.ListN.{length, take, drop}
 use lib.Seq.{sets, length-slice, get_or-drop}
 use borrow.Author.Tests.{eq-eqb, le-ltb}
-use Rattle.fields.specs.declared.Answer.{Answer}
-use Rattle.fields.specs.declared.Answer.TheVariants.{Accepted}
+use Rattle.std.specs.Prelude.{Result, Ok}
+use Rattle.fields.specs.declared.refusal.Refusal.{Refusal}
 use Rattle.fields.specs.Files.{File, file_of, content}
 use Rattle.fields.specs.Answers.{Outcome, outcome}
 use Rattle.fields.proofs.AnswerLaws.{outcome-same}
@@ -85,7 +85,7 @@ slot-body f t = let z : 0 + t / 4 ≡ t / 4 = omega arith in ap (bits_of (t % 4)
 over-front : (out ys : List ℕ) → length ys ≤ length out → take (length ys) (sets out 0 ys) ≡ ys
 over-front out ys l = slice-sets out ys 0 (length ys) (omega arith) l (omega arith)
 
-module _ (Q mark : ℕ) (f : File) (out : List ℕ) (n : ℕ) (pages : List ℕ) (done : written Q mark f out ≡ outcome (Accepted n) pages) where
+module _ (Q mark : ℕ) (f : File) (out : List ℕ) (n : ℕ) (pages : List ℕ) (done : written Q mark f out ≡ outcome (Ok n) pages) where
   written-file : (write_no Q mark f (length out) ≡ 0) × (file_of pages n ≡ over out (status_pages Q mark (body_of f)))
   unfolding written
   written-file =
@@ -102,14 +102,14 @@ module _ (Q mark : ℕ) (f : File) (out : List ℕ) (n : ℕ) (pages : List ℕ)
       (l, ap content w.1 ∙ over-front out (status_pages Q mark (body_of f)) fits.4)
 
   module _ (back₀ : List ℕ) (whole : 1 ≤ Q) (long : n ≤ length back₀) where
-    read_done : read_back Q (take n pages) back₀ ≡ outcome (Accepted n) (sets back₀ 0 (body_from (status_pages Q mark (body_of f))))
+    read_done : read_back Q (take n pages) back₀ ≡ outcome (Ok n) (sets back₀ 0 (body_from (status_pages Q mark (body_of f))))
     unfolding read_back
     read_done =
         let w = written-front in
         let pg = status_pages Q mark (body_of f) in
         let no : read_no Q pg (length back₀) ≡ 0 = pages-read Q mark (body_of f) whole (length back₀) (omega arith) in
         let l : n ≡ length (body_from pg) = w.0 ∙ sym (length_back pg) in
-        ap (λ (x : List ℕ). read_back Q x back₀) w.1 ∙ sym (over_done back₀ (body_from pg) (sets back₀ 0 (body_from pg)) 0 n (read_no Q pg (length back₀)) (sym no) refl l refl)
+        ap (λ (x : List ℕ). read_back Q x back₀) w.1 ∙ sym (over_done back₀ (body_from pg) (sets back₀ 0 (body_from pg)) n (read_no Q pg (length back₀)) (sym no) l refl)
 
     read-slot : (t : ℕ) → slot_of 0 (take n (read_back Q (take n pages) back₀).bytes) t ≡ slot_of 0 (body_from (status_pages Q mark (body_of f))) t
     read-slot t =
@@ -124,7 +124,7 @@ module _ (Q mark : ℕ) (f : File) (out : List ℕ) (n : ℕ) (pages : List ℕ)
         let fits = write-fits Q mark f (length out) _ refl written-file.0 in
         let s : length (body_of f) ≡ f.len - 8 = length-slice 8 f.len f.bytes fits.1 in
         record {
-          accepted = read_done ∙ ap (λ (o : Outcome). outcome (Accepted n) o.bytes) (sym read_done);
+          accepted = read_done ∙ ap (λ (o : Outcome). outcome (Ok n) o.bytes) (sym read_done);
           same = λ t l. read-slot t ∙ back-same Q mark (body_of f) whole fits.3 t l ∙ sym (slot-body f t);
           absent = λ t l. read-slot t ∙ back-past Q mark (body_of f) whole t (omega arith);
           below = λ t l m. read-slot t ∙ back_in Q mark (body_of f) whole t (omega arith) ∙ back_below mark t (slot_of 0 (body_of f) t) l;
@@ -135,10 +135,10 @@ unfolding AllRoundTrip
 round_trip Q mark f out n pages back₀ whole done long = came-back Q mark f out n pages done back₀ whole long
 
 -- the same of what the two functions return, by their contracts
-pub round-trip-code : (mark : ℕ) (f : File) (out : List ℕ) (n : ℕ) (pages back₀ back : List ℕ) (r : Answer) → outcome (Accepted n) pages ≡ written 8192 mark f out
-    → outcome r back ≡ read_back 8192 (take n pages) back₀ → n ≤ length back₀ → (r ≡ Accepted n) × RoundTrip 8192 mark f n pages back₀ back
+pub round-trip-code : (mark : ℕ) (f : File) (out : List ℕ) (n : ℕ) (pages back₀ back : List ℕ) (r : Result ℕ Refusal) → outcome (Ok n) pages ≡ written 8192 mark f out
+    → outcome r back ≡ read_back 8192 (take n pages) back₀ → n ≤ length back₀ → (r ≡ Ok n) × RoundTrip 8192 mark f n pages back₀ back
 unfolding AllRoundTrip
 round-trip-code mark f out n pages back₀ back r w b long =
     let c = round_trip 8192 mark f out n pages back₀ (lit≤ tt) (sym w) long in
-    let e = outcome-same r (Accepted n) back (read_back 8192 (take n pages) back₀).bytes (b ∙ c.accepted) in
+    let e = outcome-same r (Ok n) back (read_back 8192 (take n pages) back₀).bytes (b ∙ c.accepted) in
     (e.0, subst (λ (x : List ℕ). RoundTrip 8192 mark f n pages back₀ x) (sym e.1) c)

@@ -3,7 +3,9 @@ use mathlib.Core.Path.{◌≡◌, refl}
 use Prim.Native.Nat.{ℕ, ◌+◌}
 use mathlib.Core.List.{List, [], ◌∷◌, ◌++◌, map}
 use lib.ListN.{length, replicate}
-use Rattle.fields.specs.declared.Answer.TheVariants.{Accepted, Refused}
+use Rattle.std.specs.Prelude.{Ok, Err}
+use Rattle.fields.specs.declared.refusal.Refusal.{Refusal}
+use Rattle.fields.specs.declared.refusal.Refusal.TheVariants.{Unfit, SliceShort, ActiveAbove, SubCommitted, PartOfPage}
 use Rattle.fields.specs.Files as files
 use Rattle.fields.specs.Files.{File, file_of}
 use Rattle.fields.specs.Answers.{Outcome, outcome, decided}
@@ -27,10 +29,10 @@ abbrev reads : List ℕ → ℕ → Outcome
 reads pages n = read_back 4 pages (replicate n 9)
 
 abbrev puts : Outcome → ℕ → List ℕ → Case
-puts o n bytes = record { gives = o; wants = outcome (Accepted n) bytes }
+puts o n bytes = record { gives = o; wants = outcome (Ok n) bytes }
 
-abbrev refuses : Outcome → ℕ → ℕ → Case
-refuses o number n = record { gives = o; wants = outcome (Refused number) (replicate n 9) }
+abbrev refuses : Outcome → Refusal → ℕ → Case
+refuses o r n = record { gives = o; wants = outcome (Err r) (replicate n 9) }
 
 abbrev cases : List Case
 cases =
@@ -42,19 +44,19 @@ cases =
     ∷ puts (writes 0 (2 ∷ 0 ∷ 0 ∷ 0 ∷ 3 ∷ []) 8) 8 (1 ∷ 0 ∷ 0 ∷ 0 ∷ 2 ∷ 0 ∷ 0 ∷ 0 ∷ [])
     ∷ puts (writes 9 [] 0) 0 []
     -- id 3 Active, at the mark and below it; a mark past the body
-    ∷ refuses (writes 3 (0x40 ∷ []) 4) 19 4
+    ∷ refuses (writes 3 (0x40 ∷ []) 4) ActiveAbove 4
     ∷ puts (writes 4 (0x40 ∷ []) 4) 4 (0x55 ∷ 0 ∷ 0 ∷ 0 ∷ [])
     ∷ puts (writes 0xFFFF_FFFF_FFFF_FFFF (0x40 ∷ []) 4) 4 (0x55 ∷ 0 ∷ 0 ∷ 0 ∷ [])
     -- no room; 19 before 13; a clog under 8 bytes, before both
-    ∷ refuses (writes 0 (0x38 ∷ []) 3) 13 3
-    ∷ refuses (writes 3 (0x40 ∷ []) 3) 19 3
-    ∷ refuses (written 4 0 (file_of (0x40 ∷ 0x40 ∷ []) 2) []) 1 0
+    ∷ refuses (writes 0 (0x38 ∷ []) 3) SliceShort 3
+    ∷ refuses (writes 3 (0x40 ∷ []) 3) ActiveAbove 3
+    ∷ refuses (written 4 0 (file_of (0x40 ∷ 0x40 ∷ []) 2) []) Unfit 0
     -- read back; sub-committed; not whole pages, though there is a 3; a 3, though there is no room; no room; no page
     ∷ puts (reads (0x24 ∷ 0 ∷ 0 ∷ 0 ∷ []) 5) 4 (0x38 ∷ 0 ∷ 0 ∷ 0 ∷ 9 ∷ [])
-    ∷ refuses (reads (0 ∷ 0 ∷ 0 ∷ 0xC0 ∷ []) 4) 20 4
-    ∷ refuses (reads (3 ∷ 0 ∷ 0 ∷ []) 4) 21 4
-    ∷ refuses (reads (3 ∷ 0 ∷ 0 ∷ 0 ∷ []) 1) 20 1
-    ∷ refuses (reads (2 ∷ 0 ∷ 0 ∷ 0 ∷ []) 3) 13 3
+    ∷ refuses (reads (0 ∷ 0 ∷ 0 ∷ 0xC0 ∷ []) 4) SubCommitted 4
+    ∷ refuses (reads (3 ∷ 0 ∷ 0 ∷ []) 4) PartOfPage 4
+    ∷ refuses (reads (3 ∷ 0 ∷ 0 ∷ 0 ∷ []) 1) SubCommitted 1
+    ∷ refuses (reads (2 ∷ 0 ∷ 0 ∷ 0 ∷ []) 3) SliceShort 3
     ∷ puts (reads [] 1) 0 (9 ∷ [])
     ∷ []
 

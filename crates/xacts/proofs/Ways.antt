@@ -9,7 +9,9 @@ use lib.Dec.{ltb, eqb, lit<}
 use lib.ListN.{length, take, drop, replicate, length-append, length-replicate}
 use lib.Seq.{sets, length-slice}
 use borrow.Author.Tests.{ltb-false}
-use Rattle.fields.specs.declared.Answer.TheVariants.{Accepted, Refused}
+use Rattle.std.specs.Prelude.{Ok, Err}
+use Rattle.fields.specs.declared.refusal.Refusal.{Refusal}
+use Rattle.fields.specs.Refusals.{number_of}
 use Rattle.fields.specs.Files.{File, file_of, room}
 use Rattle.fields.specs.Answers.{outcome, decided}
 use Rattle.fields.proofs.Tests.{passed}
@@ -18,7 +20,7 @@ use Rattle.fields.proofs.Stored.{laid_next}
 use Rattle.fields.proofs.AnswerLaws.{outcome-refused, outcome-accepted}
 use Rattle.clog.specs.Slots.{codes}
 use Rattle.clog.specs.Calls.{unfit}
-use Rattle.clog.proofs.Refusals.{not-0, fit-means}
+use Rattle.clog.proofs.Refusals.{fit-means}
 use Rattle.xacts.specs.Pages.{written_as, remade, whole_pages, status_pages, body_from}
 use Rattle.xacts.specs.Calls.{body_of, has, write_no, read_no, over, written, read_back}
 use Rattle.xacts.proofs.Remade.{length-remade}
@@ -77,41 +79,40 @@ module _ (Q mark : ℕ) (clog : List ℕ) (len size : ℕ) (fit : unfit 8 (lengt
   lent-body : take (len - 8) (drop 8 clog) ≡ body_of (file_of clog len)
   lent-body = sym (drop-take 8 len clog)
 
-  pub write-tests : 1 ≤ Q → (active : Bool) (end last number : ℕ) → active ≡ has 1 (drop mark (codes (take (len - 8) (drop 8 clog)))) → end ≡ whole_pages Q (len - 8)
-      → last ≡ cond (ltb size end) 13 0 → number ≡ cond active 19 last → number ≡ write_no Q mark (file_of clog len) size
+  pub write-tests : 1 ≤ Q → (active short : Bool) (end : ℕ) → active ≡ has 1 (drop mark (codes (take (len - 8) (drop 8 clog)))) → end ≡ whole_pages Q (len - 8)
+      → short ≡ ltb size end → cond active 19 (cond short 13 0) ≡ write_no Q mark (file_of clog len) size
   unfolding write_no
-  write-tests whole active end last number h is l e =
+  write-tests whole active short end h is l =
       let f = fit-means 8 (length clog) len fit in
       let n : length (status_pages Q mark (body_of (file_of clog len))) ≡ end =
       length-pages Q mark (body_of (file_of clog len)) whole ∙ ap (whole_pages Q) (length-slice 8 len clog f.1) ∙ sym is in
-      rw (e, l, h, lent-body, fit, n)
+      rw (l, h, lent-body, fit, n)
 
 -- ---- the ways out
 
-over_no : (out ys : List ℕ) (number n : ℕ) → number ≡ n → (number ≡ 0 → ⊥) → outcome (Refused number) out ≡ decided n (file_of out 0) (over out ys)
-over_no out ys number n e z = outcome-refused number n (file_of out 0) (over out ys) out (not-0 number z) (sym e) refl
+over_no : (out ys : List ℕ) (r : Refusal) (n : ℕ) → number_of r ≡ n → outcome (Err r) out ≡ decided n (file_of out 0) (over out ys)
+over_no out ys r n e = outcome-refused r n (file_of out 0) (over out ys) out (sym e) refl
 
-pub over_done : (out ys buf : List ℕ) (number len n : ℕ) → number ≡ n → number ≡ 0 → len ≡ length ys → buf ≡ sets out 0 ys
-    → outcome (Accepted len) buf ≡ decided n (file_of out 0) (over out ys)
+pub over_done : (out ys buf : List ℕ) (len n : ℕ) → 0 ≡ n → len ≡ length ys → buf ≡ sets out 0 ys → outcome (Ok len) buf ≡ decided n (file_of out 0) (over out ys)
 unfolding over
-over_done out ys buf number len n e z l b = outcome-accepted len n (file_of out 0) (file_of (sets out 0 ys) (length ys)) buf (sym e ∙ z) (rw (b, l))
+over_done out ys buf len n e l b = outcome-accepted len n (file_of out 0) (file_of (sets out 0 ys) (length ys)) buf (sym e) (rw (b, l))
 
-module _ (Q mark : ℕ) (f : File) (out : List ℕ) (number : ℕ) (is : number ≡ write_no Q mark f (length out)) where
-  pub written-no : (number ≡ 0 → ⊥) → outcome (Refused number) out ≡ written Q mark f out
+module _ (Q mark : ℕ) (f : File) (out : List ℕ) where
+  pub written-no : (r : Refusal) → number_of r ≡ write_no Q mark f (length out) → outcome (Err r) out ≡ written Q mark f out
   unfolding written
-  written-no z = over_no out (status_pages Q mark (body_of f)) number _ is z
+  written-no r e = over_no out (status_pages Q mark (body_of f)) r _ e
 
   -- the body's bytes, then zeros up to the end of the last page
-  pub written-done : number ≡ 0 → 1 ≤ Q → (n end : ℕ) (mid buf : List ℕ) → n ≡ f.len - 8 → end ≡ whole_pages Q n → mid ≡ sets out 0 (remade (written_as mark) 0 (body_of f))
-      → buf ≡ sets mid n (replicate (end - n) 0) → outcome (Accepted end) buf ≡ written Q mark f out
+  pub written-done : 0 ≡ write_no Q mark f (length out) → 1 ≤ Q → (n end : ℕ) (mid buf : List ℕ) → n ≡ f.len - 8 → end ≡ whole_pages Q n
+      → mid ≡ sets out 0 (remade (written_as mark) 0 (body_of f)) → buf ≡ sets mid n (replicate (end - n) 0) → outcome (Ok end) buf ≡ written Q mark f out
   unfolding written
-  written-done z q n end mid buf e g m b =
-      let fits = write-fits Q mark f (length out) number is z in
+  written-done is q n end mid buf e g m b =
+      let fits = write-fits Q mark f (length out) 0 is refl in
       let s : length (body_of f) ≡ n = length-slice 8 f.len f.bytes fits.1 ∙ sym e in
       let j : n ≡ 0 + length (remade (written_as mark) 0 (body_of f)) = rw length-remade (omega arith) in
       let l : end ≡ length (status_pages Q mark (body_of f)) = g ∙ sym (length-pages Q mark (body_of f) q ∙ ap (whole_pages Q) s) in
       let p : status_pages Q mark (body_of f) ≡ remade (written_as mark) 0 (body_of f) ++ replicate (end - n) 0 = pages-are Q mark (body_of f) n end s g in
-      over_done out (status_pages Q mark (body_of f)) buf number end _ is z l
+      over_done out (status_pages Q mark (body_of f)) buf end _ is l
       (laid_next 0 n (remade (written_as mark) 0 (body_of f)) (replicate (end - n) 0) out mid buf j m b ∙ ap (sets out 0) (sym p))
 
 pub lent_length : (clog : List ℕ) (len : ℕ) → len ≤ length clog → length (take (len - 8) (drop 8 clog)) ≡ len - 8
@@ -124,17 +125,17 @@ lent-room Q mark clog len size q h l =
     let m = length-slice 8 len clog h in
     omega (arith, whole-least Q (length (body_of (file_of clog len))) q, length-pages Q mark (body_of (file_of clog len)) q)
 
-pub written-lent : (Q mark : ℕ) (clog : List ℕ) (len : ℕ) (out : List ℕ) (number : ℕ) → number ≡ write_no Q mark (file_of clog len) (length out) → number ≡ 0 → 1 ≤ Q
+pub written-lent : (Q mark : ℕ) (clog : List ℕ) (len : ℕ) (out : List ℕ) → 0 ≡ write_no Q mark (file_of clog len) (length out) → 1 ≤ Q
     → (end : ℕ) (mid buf : List ℕ) → end ≡ whole_pages Q (len - 8) → mid ≡ sets out 0 (remade (written_as mark) 0 (take (len - 8) (drop 8 clog)))
-    → buf ≡ sets mid (len - 8) (replicate (end - (len - 8)) 0) → outcome (Accepted end) buf ≡ written Q mark (file_of clog len) out
-written-lent Q mark clog len out number is z q end mid buf g m b =
-    written-done Q mark (file_of clog len) out number is z q (len - 8) end mid buf refl g (m ∙ ap (λ (x : List ℕ). sets out 0 (remade (written_as mark) 0 x)) (sym (drop-take 8 len clog))) b
+    → buf ≡ sets mid (len - 8) (replicate (end - (len - 8)) 0) → outcome (Ok end) buf ≡ written Q mark (file_of clog len) out
+written-lent Q mark clog len out is q end mid buf g m b =
+    written-done Q mark (file_of clog len) out is q (len - 8) end mid buf refl g (m ∙ ap (λ (x : List ℕ). sets out 0 (remade (written_as mark) 0 x)) (sym (drop-take 8 len clog))) b
 
-module _ (Q : ℕ) (pages out : List ℕ) (number : ℕ) (is : number ≡ read_no Q pages (length out)) where
-  pub back-no : (number ≡ 0 → ⊥) → outcome (Refused number) out ≡ read_back Q pages out
+module _ (Q : ℕ) (pages out : List ℕ) where
+  pub back-no : (r : Refusal) → number_of r ≡ read_no Q pages (length out) → outcome (Err r) out ≡ read_back Q pages out
   unfolding read_back
-  back-no z = over_no out (body_from pages) number _ is z
+  back-no r e = over_no out (body_from pages) r _ e
 
-  pub back_done : number ≡ 0 → (buf : List ℕ) → buf ≡ sets out 0 (body_from pages) → outcome (Accepted (length pages)) buf ≡ read_back Q pages out
+  pub back_done : 0 ≡ read_no Q pages (length out) → (buf : List ℕ) → buf ≡ sets out 0 (body_from pages) → outcome (Ok (length pages)) buf ≡ read_back Q pages out
   unfolding read_back
-  back_done z buf b = over_done out (body_from pages) buf number (length pages) _ is z (sym (length_back pages)) b
+  back_done is buf b = over_done out (body_from pages) buf (length pages) _ is (sym (length_back pages)) b

@@ -3,16 +3,17 @@
 // nothing, and once to write; in a pass each byte is looked at once, whatever its slots are.
 #![tactic(auto)]
 
-ghost use Rattle.std.specs.Prelude.{◌≡◌, cond, ◌-◌, ◌≤◌, ◌<◌, length, drop};
+ghost use Rattle.std.specs.Prelude.{◌≡◌, ◌-◌, ◌≤◌, ◌<◌, length, drop};
 ghost use Rattle.std.proofs.lemmas.List.Edits.{sets};
 ghost use Rattle.fields.specs.Files.{file_of};
+ghost use Rattle.fields.specs.Refusals.{number_in};
 ghost use Rattle.fields.specs.Answers.{outcome};
 ghost use Rattle.clog.specs.Slots.{codes};
 ghost use Rattle.xacts.specs.Pages.{written_as, read_as, byte_of, byte_made, remade, whole_pages, body_from};
 ghost use Rattle.xacts.specs.Calls.{has, write_no, read_no, written, read_back};
 ghost use Rattle.xacts.specs.Inside.{four_of};
 
-use fields::{Answer, TransactionId, numbers};
+use fields::{Refusal, TransactionId, numbers};
 
 // A clog's slots.
 const ACTIVE: u8 = 1;
@@ -39,25 +40,21 @@ fn written_as(mark: u64, id: u64, c: u8) -> u8
     if id < mark {
         return PAGE_COMMITTED;
     }
-    if c == COMMITTED {
-        return PAGE_COMMITTED;
+    match c {
+        COMMITTED => PAGE_COMMITTED,
+        ABORTED => PAGE_ABORTED,
+        _ => NOTHING,
     }
-    if c == ABORTED {
-        return PAGE_ABORTED;
-    }
-    NOTHING
 }
 
 fn read_as(c: u8) -> u8
     ensures { (result ≡ read_as c) × (result < 4) }
 {
-    if c == PAGE_COMMITTED {
-        return COMMITTED;
+    match c {
+        PAGE_COMMITTED => COMMITTED,
+        PAGE_ABORTED => ABORTED,
+        _ => NOTHING,
     }
-    if c == PAGE_ABORTED {
-        return ABORTED;
-    }
-    NOTHING
 }
 
 // The byte of four slots, written or read.
@@ -92,95 +89,67 @@ fn read_byte(b: u8) -> u8
 
 // ---- whether a slot is c
 
-// A slot of the byte that is not among its first w is c. The highest is asked first; on the way down the first slot under w ends the search.
+// A slot of the byte that is not among its first w is c.
 fn byte_has(c: u8, w: u64, b: u8) -> bool
     ensures { result ≡ has c (drop w (four_of b)) }
 {
-    if 3 < w {
-        return false;
-    }
-    if b / 64 % 4 == c {
-        return true;
-    }
-    if 2 < w {
-        return false;
-    }
-    if b / 16 % 4 == c {
-        return true;
-    }
-    if 1 < w {
-        return false;
-    }
-    if b / 4 % 4 == c {
-        return true;
-    }
-    if 0 < w {
-        return false;
-    }
-    b % 4 == c
+    w <= 3 && b / 64 % 4 == c
+        || w <= 2 && b / 16 % 4 == c
+        || w <= 1 && b / 4 % 4 == c
+        || w == 0 && b % 4 == c
 }
 
-// The slots of the next byte are four further on.
-fn less4(w: u64) -> u64
-    ensures { result ≡ w - 4 }
-{
-    if w < 4 { 0 } else { w - 4 }
-}
-
-// A slot that is not among the first w is c: Active at or above the mark, or a 3 anywhere.
+// A slot that is not among the first w is c: Active at or above the mark, or a 3 anywhere. The slots of the next byte are four further on.
 fn has_slot(c: u8, w: u64, s: &[u8]) -> bool
     ensures { result ≡ has c (drop w (codes s.now)) }
 {
     let mut left = w;
-    let mut i = 0;
-    while i < s.len() {
-        if byte_has(c, left, s[i]) {
+    for b in s {
+        if byte_has(c, left, *b) {
             return true;
         }
-        left = less4(left);
-        i += 1;
+        left = left.saturating_sub(4);
     }
     false
 }
 
 // ---- the refusals
 
-// The number where the test holds, and else what the tests after it say.
-fn refuse(test: bool, number: u8, rest: u8) -> u8
-    ensures { result ≡ cond test number rest }
-{
-    if test { number } else { rest }
-}
-
 fn whole_pages(n: usize) -> usize
     requires { n ≤ 1048576 }
     ensures { result ≡ whole_pages 8192 n }
 {
-    (n + (numbers::STATUS_PAGE - 1)) / numbers::STATUS_PAGE * numbers::STATUS_PAGE
+    n.next_multiple_of(numbers::STATUS_PAGE)
 }
 
-fn write_no(clog: &[u8], len: usize, mark: u64, size: usize) -> u8
-    ensures { result ≡ write_no 8192 mark (file_of clog.now len) size }
+fn check_write(clog: &[u8], len: usize, mark: u64, size: usize) -> Result<(), Refusal>
+    ensures { number_in result ≡ write_no 8192 mark (file_of clog.now len) size }
 {
     if clog::bad_length(numbers::HEADER, clog.len(), len) {
-        return numbers::UNFIT;
+        return Err(Refusal::Unfit);
     }
-    let active = has_slot(ACTIVE, mark, &clog[numbers::HEADER..len]);
-    let short = size < whole_pages(len - numbers::HEADER);
-    let then = refuse(short, numbers::SLICE_SHORT, numbers::ACCEPTED);
-    refuse(active, numbers::ACTIVE_ABOVE, then)
+    if has_slot(ACTIVE, mark, &clog[numbers::HEADER..len]) {
+        return Err(Refusal::ActiveAbove);
+    }
+    if size < whole_pages(len - numbers::HEADER) {
+        return Err(Refusal::SliceShort);
+    }
+    Ok(())
 }
 
-fn read_no(pages: &[u8], size: usize) -> u8
-    ensures { result ≡ read_no 8192 pages.now size }
+fn check_read(pages: &[u8], size: usize) -> Result<(), Refusal>
+    ensures { number_in result ≡ read_no 8192 pages.now size }
 {
     if pages.len() % numbers::STATUS_PAGE != 0 {
-        return numbers::PART_OF_PAGE;
+        return Err(Refusal::PartOfPage);
     }
-    let sub_committed = has_slot(PAGE_SUB_COMMITTED, 0, pages);
-    let short = size < pages.len();
-    let last = refuse(short, numbers::SLICE_SHORT, numbers::ACCEPTED);
-    refuse(sub_committed, numbers::SUB_COMMITTED, last)
+    if has_slot(PAGE_SUB_COMMITTED, 0, pages) {
+        return Err(Refusal::SubCommitted);
+    }
+    if size < pages.len() {
+        return Err(Refusal::SliceShort);
+    }
+    Ok(())
 }
 
 // ---- the passes that write
@@ -189,11 +158,8 @@ fn write_body(body: &[u8], mark: u64, out: &mut [u8])
     requires { (length body.now ≤ 1048576) × (length body.now ≤ length out.old) }
     ensures { out.new ≡ sets out.old 0 (remade (written_as mark) 0 body.now) }
 {
-    let mut i = 0;
-    while i < body.len() {
-        let b = written_byte(mark, 4 * (i as u64), body[i]);
-        out[i] = b;
-        i += 1;
+    for (i, b) in body.iter().enumerate() {
+        out[i] = written_byte(mark, 4 * i as u64, *b);
     }
 }
 
@@ -201,39 +167,35 @@ fn read_body(pages: &[u8], out: &mut [u8])
     requires { length pages.now ≤ length out.old }
     ensures { out.new ≡ sets out.old 0 (body_from pages.now) }
 {
-    let mut i = 0;
-    while i < pages.len() {
-        let b = read_byte(pages[i]);
-        out[i] = b;
-        i += 1;
+    for (i, b) in pages.iter().enumerate() {
+        out[i] = read_byte(*b);
     }
 }
 
 // ---- the two calls
 
-// The clog's body as whole pages over the output's front; the answer is their length.
-pub fn write_pages(clog: &[u8], len: usize, mark: TransactionId, out: &mut [u8]) -> Answer
+// The clog's body as whole pages over the output's front; it gives their length.
+pub fn write_pages(
+    clog: &[u8],
+    len: usize,
+    mark: TransactionId,
+    out: &mut [u8],
+) -> Result<usize, Refusal>
     ensures { outcome result out.new ≡ written 8192 mark.0 (file_of clog.now len) out.old }
 {
-    let no = write_no(clog, len, mark.0, out.len());
-    if no != numbers::ACCEPTED {
-        return Answer::Refused(no);
-    }
+    check_write(clog, len, mark.0, out.len())?;
     let n = len - numbers::HEADER;
     let end = whole_pages(n);
     write_body(&clog[numbers::HEADER..len], mark.0, out);
     fields::zero_fill(out, n, end);
-    Answer::Accepted(end)
+    Ok(end)
 }
 
-// Whole pages as a body over the output's front; the answer is its length, which is the pages'.
-pub fn read_pages(pages: &[u8], out: &mut [u8]) -> Answer
+// Whole pages as a body over the output's front; it gives its length, which is the pages'.
+pub fn read_pages(pages: &[u8], out: &mut [u8]) -> Result<usize, Refusal>
     ensures { outcome result out.new ≡ read_back 8192 pages.now out.old }
 {
-    let no = read_no(pages, out.len());
-    if no != numbers::ACCEPTED {
-        return Answer::Refused(no);
-    }
+    check_read(pages, out.len())?;
     read_body(pages, out);
-    Answer::Accepted(pages.len())
+    Ok(pages.len())
 }

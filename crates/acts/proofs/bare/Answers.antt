@@ -1,8 +1,9 @@
 -- `acts::bare` meets its contract. Assumes nothing.
-use Rattle.acts.proofs.Records.{bare-out}
+use mathlib.Core.Path.{ap, ◌∙◌}
+use Rattle.stores.specs.declared.Plan.{Plan}
+use Rattle.acts.specs.Made.{bare_made, plain_made}
 use Rattle.acts.proofs.bare.Goals as goal
 
 pub returns : goal.returns
-returns c =
-    let a = c.args in
-    bare-out a.number a.change a.head c.no_plan.result c.none.result c.no_plan.ensures c.none.ensures
+unfolding bare_made plain_made
+returns c = let a = c.args in c.plain_call.ensures ∙ ap (λ (p : Plan). plain_made p a.change a.head) c.no_plan.ensures

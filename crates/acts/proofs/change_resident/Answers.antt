@@ -1,12 +1,11 @@
--- `acts::change_resident` meets its contract: nothing is asked, or page 0 is seated. Assumes nothing.
-use borrow.Author.Tests.{not-false, not-true}
+-- `acts::change_resident` meets its contract: page 0 is seated, or nothing is asked. Assumes nothing.
 use Rattle.acts.specs.Made.{resident_after}
 use Rattle.acts.proofs.change_resident.Goals as goal
 
-pub returns-then-not-meta : goal.returns-then-not-meta
+pub returns-in-Some : goal.returns-in-Some
 unfolding resident_after
-returns-then-not-meta c = rw (not-true c.args.meta c.if-not-meta.true-raw)
+returns-in-Some c = rw c.in-Some.is c.seat.ensures
 
-pub returns : goal.returns
+pub returns-in-None : goal.returns-in-None
 unfolding resident_after
-returns c = rw (not-false c.args.meta c.if-not-meta.false-raw) c.seat.ensures
+returns-in-None c = rw c.in-None.is

@@ -1,15 +1,12 @@
 -- `acts::change_rows` meets its contract, whichever the change. Assumes nothing.
+use native.Mathlib.Omega.{arith}
 use Rattle.acts.specs.Made.{rows_after}
 use Rattle.acts.proofs.change_rows.Goals as goal
-
-pub returns-in-Same : goal.returns-in-Same
-unfolding rows_after
-returns-in-Same c = rw c.in-Same.is
 
 pub returns-in-Set : goal.returns-in-Set
 unfolding rows_after
 returns-in-Set c = rw c.in-Set.is c.with_status.ensures
 
-pub returns-in-Touch : goal.returns-in-Touch
+pub returns-in-Same : goal.returns-in-Same
 unfolding rows_after
-returns-in-Touch c = rw c.in-Touch.is
+returns-in-Same c = grind (arith, c.in-Same.is)

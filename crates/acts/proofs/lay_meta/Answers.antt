@@ -2,20 +2,17 @@
 use mathlib.Core.Path.{sym}
 use Prim.Native.Nat.{◌*◌}
 use native.Mathlib.Omega.{arith}
-use borrow.Author.Tests.{not-false, not-true}
 use Rattle.fields.proofs.Stored.{sets-out}
 use Rattle.ready.specs.Ready.{meta_of}
 use Rattle.acts.proofs.lay_meta.Goals as goal
 
-pub returns-then-not-meta : goal.returns-then-not-meta
-returns-then-not-meta c = rw (not-true c.args.meta c.if-not-meta.true-raw)
+pub returns-in_default : goal.returns-in_default
+returns-in_default c = rw c.in_default.is
 
 pub returns-then-frames-slot : goal.returns-then-frames-slot
 returns-then-frames-slot c =
     let a = c.args in
-    rw (not-false a.meta c.if-not-meta.false-raw) (sym (sets-out (meta_of 4096 a.m) a.frames.now (a.slot * 4096) (omega arith)))
+    rw c.in-Some.is (sym (sets-out (meta_of 4096 a.m) a.frames.now (c.in-Some.slot * 4096) (omega arith)))
 
 pub returns : goal.returns
-returns c =
-    let a = c.args in
-    rw (not-false a.meta c.if-not-meta.false-raw) c.put_meta.ensures
+returns c = rw c.in-Some.is c.put_meta.ensures

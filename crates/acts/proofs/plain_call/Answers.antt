@@ -1,6 +1,7 @@
 -- `acts::plain_call` meets its contract. Assumes nothing.
-use Rattle.acts.proofs.Records.{plain_out}
+use Rattle.acts.specs.Made.{plain_made}
 use Rattle.acts.proofs.plain_call.Goals as goal
 
 pub returns : goal.returns
-returns c = plain_out c.args.plan c.none.result c.args.change c.args.head c.none.ensures
+unfolding plain_made
+returns c = rw c.none.ensures

@@ -1,13 +1,9 @@
 -- `apart::any_bad` meets its contract. The loop's invariant: what was found, or is found in what is left. Assumes nothing.
-use Prim.Native.Nat.{◌≤◌, ◌-◌}
 use mathlib.Core.Path.{◌≡◌}
 use mathlib.Core.Bool.{◌||◌}
 use lib.ListN.{take, drop}
 use Rattle.frames.specs.Pages.{any_bad}
 use Rattle.apart.proofs.any_bad.Given as goal
 
-abbrev pub invariant-loop-i : goal.invariant-loop-i
-invariant-loop-i l = (l.i ≤ l.n) × ((l.bad || any_bad (drop l.i (take l.n l.pages))) ≡ any_bad (take l.n l.pages))
-
-abbrev pub decreases-loop-i : goal.decreases-loop-i
-decreases-loop-i l = l.n - l.i
+abbrev pub invariant-loop-page : goal.invariant-loop-page
+invariant-loop-page l = (l.bad || any_bad (drop l.page-index (take l.n l.pages))) ≡ any_bad (take l.n l.pages)

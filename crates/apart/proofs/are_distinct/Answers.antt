@@ -1,5 +1,5 @@
 -- `apart::are_distinct` meets its contract: pages that ascend are distinct, others are compared pair by pair. Assumes nothing.
-use mathlib.Core.Path.{◌≡◌, refl, sym, ◌∙◌}
+use mathlib.Core.Path.{◌≡◌, sym, ◌∙◌}
 use native.Mathlib.Omega.{arith}
 use borrow.Author.Rules.{rules}
 use lib.ListN.{length, take}
@@ -11,9 +11,6 @@ pub returns-then-is_rising : goal.returns-then-is_rising
 returns-then-is_rising c =
     let a = c.args in
     sym (rising-distinct (take a.n a.pages.now) (sym c.is_rising.ensures ∙ c.if-is_rising.true))
-
-pub loop-i-init : goal.loop-i-init
-loop-i-init c = refl
 
 pub returns-then-is_in : goal.returns-then-is_in
 returns-then-is_in c =

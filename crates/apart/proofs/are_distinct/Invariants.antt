@@ -1,5 +1,4 @@
 -- `apart::are_distinct` meets its contract: pages that ascend are distinct, others are compared pair by pair. Assumes nothing.
-use Prim.Native.Nat.{◌-◌}
 use mathlib.Core.Path.{◌≡◌}
 use lib.ListN.{take, drop}
 use Rattle.frames.specs.Pages.{distinct}
@@ -7,6 +6,3 @@ use Rattle.apart.proofs.are_distinct.Given as goal
 
 abbrev pub invariant-loop-i : goal.invariant-loop-i
 invariant-loop-i l = distinct (drop l.i (take l.n l.pages)) ≡ distinct (take l.n l.pages)
-
-abbrev pub decreases-loop-i : goal.decreases-loop-i
-decreases-loop-i l = l.n - l.i

@@ -1,5 +1,5 @@
 -- `apart::is_climbing` meets its contract. The loop's invariant: what was found, and the order of what is left. Assumes nothing.
-use Prim.Native.Nat.{◌≤◌, ◌-◌, max}
+use Prim.Native.Nat.{◌-◌}
 use mathlib.Core.Path.{◌≡◌}
 use mathlib.Core.Bool.{◌&&◌}
 use lib.ListN.{take, drop}
@@ -7,7 +7,4 @@ use Rattle.frames.specs.Pages.{ascending}
 use Rattle.apart.proofs.is_climbing.Given as goal
 
 abbrev pub invariant-loop-i : goal.invariant-loop-i
-invariant-loop-i l = (1 ≤ l.i) × (l.i ≤ max l.n 1) × ((l.good && ascending (drop (l.i - 1) (take l.n l.touched))) ≡ ascending (take l.n l.touched))
-
-abbrev pub decreases-loop-i : goal.decreases-loop-i
-decreases-loop-i l = l.n - l.i
+invariant-loop-i l = (l.good && ascending (drop (l.i - 1) (take l.n l.touched))) ≡ ascending (take l.n l.touched)

@@ -7,15 +7,12 @@ use Rattle.fields.proofs.Tests.{or-false}
 use Rattle.frames.proofs.Turns.{in-turn, in_end}
 use Rattle.apart.proofs.is_in.Goals as goal
 
-pub loop-i-init : goal.loop-i-init
-loop-i-init c = refl
-
 pub loop-i-preserved : goal.loop-i-preserved
 loop-i-preserved c =
     let l = c.loop-i in
     let a = c.args in
     let len : length a.pages.now ≡ 64 = search rules in
-    in-turn a.pages.now a.n l.i a.page l.found c.either-found.result c.either-found.ensures (omega arith) (omega arith) ∙ l.invariant
+    in-turn a.pages.now a.n l.i a.page l.found _ refl (omega arith) (omega arith) ∙ l.invariant
 
 pub returns : goal.returns
 returns c =

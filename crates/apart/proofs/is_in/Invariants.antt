@@ -1,5 +1,4 @@
 -- `apart::is_in` meets its contract. The loop's invariant: what was found, or is found in what is left. Assumes nothing.
-use Prim.Native.Nat.{◌-◌}
 use mathlib.Core.Path.{◌≡◌}
 use mathlib.Core.Bool.{◌||◌}
 use lib.ListN.{take, drop}
@@ -8,6 +7,3 @@ use Rattle.apart.proofs.is_in.Given as goal
 
 abbrev pub invariant-loop-i : goal.invariant-loop-i
 invariant-loop-i l = (l.found || is_in l.page (drop l.i (take l.n l.pages))) ≡ is_in l.page (drop l.from (take l.n l.pages))
-
-abbrev pub decreases-loop-i : goal.decreases-loop-i
-decreases-loop-i l = l.n - l.i

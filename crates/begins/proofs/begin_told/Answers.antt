@@ -1,11 +1,18 @@
--- `begins::begin_told` meets its contract: made ready, and told. Assumes nothing.
+-- `begins::begin_told` meets its contract: refused, or made ready and told. Assumes nothing.
 use native.Mathlib.Omega.{arith}
+use Rattle.std.specs.Prelude.{Ok}
 use Rattle.world.specs.Calls.{Begin}
 use Rattle.lent.specs.Lent.{lent}
-use Rattle.acts.proofs.Laws.{told-called}
+use Rattle.acts.specs.Made.{accepted}
+use Rattle.acts.proofs.Laws.{refused-told, told-called}
 use Rattle.begins.proofs.begin_told.Goals as goal
+
+pub returns-in_err-m : goal.returns-in_err-m
+returns-in_err-m c =
+    let a = c.args in
+    refused-told 4096 (Begin a.id) (lent a.h a.rows.now a.resident.now a.touched.now) a.log.now a.db.now a.clog.now a.frames.now c.in_err-m.field-0.0 c.in_err-m.ensures (omega arith) a.k _ c.from_residual.ensures
 
 pub returns : goal.returns
 returns c =
     let a = c.args in
-    told-called 4096 (Begin a.id) (lent a.h a.rows.now a.resident.now a.touched.now) a.log.now a.db.now a.clog.now a.frames.now c.ready_begin-m.result c.ready_begin-m.ensures (omega arith) a.k c.told_at.result c.told_at.ensures
+    told-called 4096 (Begin a.id) (lent a.h a.rows.now a.resident.now a.touched.now) a.log.now a.db.now a.clog.now a.frames.now (accepted c.in_ok-m.m) c.in_ok-m.ensures (omega arith) a.k (Ok c.told_at.result) c.told_at.ensures

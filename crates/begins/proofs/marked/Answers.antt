@@ -1,13 +1,17 @@
 -- `begins::marked` meets its contract: 11, or with one page more. Assumes nothing.
+use mathlib.Core.Path.{refl}
+use Rattle.fields.specs.Refusals.{number_of}
+use Rattle.acts.proofs.Laws.{handed-made}
 use Rattle.begins.proofs.Flushed.{marked-full, marked-fine}
 use Rattle.begins.proofs.marked.Goals as goal
 
-pub returns-then-more-ne-ACCEPTED : goal.returns-then-more-ne-ACCEPTED
-returns-then-more-ne-ACCEPTED c =
+pub returns-in_err-check_mark : goal.returns-in_err-check_mark
+returns-in_err-check_mark c =
     let a = c.args in
-    marked-full a.h a.touched.now a.page c.mark_no-more.result c.mark_no-more.ensures c.bare.result c.bare.ensures c.if-more-ne-ACCEPTED.true
+    let r = c.in_err-check_mark.field-0.0 in
+    marked-full a.h a.touched.now a.page (record { number = number_of r; count = a.h.touched }) c.in_err-check_mark.ensures _ r (handed-made a.h _ _ c.from_residual.ensures) refl
 
 pub returns : goal.returns
 returns c =
     let a = c.args in
-    marked-fine a.h a.touched.now a.page c.mark_no-more.result c.mark_no-more.ensures c.bare-2.result c.bare-2.ensures c.if-more-ne-ACCEPTED.false
+    marked-fine a.h a.touched.now a.page _ c.in_ok-check_mark.ensures _ c.bare.ensures refl

@@ -1,12 +1,18 @@
--- `calls::begin_told` meets its contract: made ready, and told. Assumes nothing.
+-- `calls::begin_told` meets its contract: refused, or made ready and told. Assumes nothing.
 use native.Mathlib.Omega.{arith}
+use Rattle.std.specs.Prelude.{Ok}
 use Rattle.world.specs.Calls.{Begin}
-use Rattle.ready.proofs.ToldLaws.{told-done}
+use Rattle.fields.proofs.AnswerLaws.{handed-on}
+use Rattle.ready.specs.Ready.{accepted}
+use Rattle.ready.proofs.ToldLaws.{told-done, refused-told}
 use Rattle.calls.proofs.begin_told.Goals as goal
+
+pub returns-in_err-r : goal.returns-in_err-r
+returns-in_err-r c =
+    let a = c.args in
+    refused-told 4096 (omega arith) a.k (Begin a.id) a.s a.log.now a.db.now a.clog.now a.frames.now c.in_err-r.field-0.0 c.from_residual.result c.in_err-r.ensures (handed-on _ _ c.from_residual.ensures)
 
 pub returns : goal.returns
 returns c =
     let a = c.args in
-    let r = c.ready_begin-r in
-    told-done 4096 (omega arith) a.k (Begin a.id) a.s a.log.now a.db.now a.clog.now a.frames.now r.result c.told_at.result r.ensures
-    c.told_at.ensures
+    told-done 4096 (omega arith) a.k (Begin a.id) a.s a.log.now a.db.now a.clog.now a.frames.now (accepted c.in_ok-r.r) (Ok c.told_at.result) c.in_ok-r.ensures c.told_at.ensures

@@ -5,8 +5,8 @@ use Rattle.clog.proofs.bad_length.Goals as goal
 
 pub returns-then-is_unfit : goal.returns-then-is_unfit
 unfolding unfit
-returns-then-is_unfit c = rw (sym c.is_unfit.ensures ∙ c.if-is_unfit.true)
+returns-then-is_unfit c = c.if-is_unfit.true ∙ rw (sym c.is_unfit.ensures ∙ c.if-is_unfit.true)
 
-pub returns : goal.returns
+pub returns-else-is_unfit : goal.returns-else-is_unfit
 unfolding unfit
-returns c = rw (sym c.is_unfit.ensures ∙ c.if-is_unfit.false)
+returns-else-is_unfit c = rw (sym c.is_unfit.ensures ∙ c.if-is_unfit.false)

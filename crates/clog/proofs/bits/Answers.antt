@@ -4,18 +4,18 @@ use native.Mathlib.Omega.{arith}
 use Rattle.clog.specs.Slots.{bits_of}
 use Rattle.clog.proofs.bits.Goals as goal
 
-pub returns-then-m-eq0 : goal.returns-then-m-eq0
+pub returns-in-0 : goal.returns-in-0
 unfolding bits_of
-returns-then-m-eq0 c = rw c.if-m-eq0.true (omega arith)
+returns-in-0 c = rw c.in-0.is (omega arith)
 
-pub returns-then-m-eq1 : goal.returns-then-m-eq1
+pub returns-in-1 : goal.returns-in-1
 unfolding bits_of
-returns-then-m-eq1 c = rw c.if-m-eq1.true
+returns-in-1 c = rw c.in-1.is
 
-pub returns-then-m-eq2 : goal.returns-then-m-eq2
+pub returns-in-2 : goal.returns-in-2
 unfolding bits_of
-returns-then-m-eq2 c = rw c.if-m-eq2.true
+returns-in-2 c = rw c.in-2.is
 
-pub returns : goal.returns
+pub returns-in_default : goal.returns-in_default
 unfolding bits_of
-returns c = let e : c.args.m ≡ 3 = omega arith in rw e
+returns-in_default c = let e : c.args.m ≡ 3 = omega arith in rw e

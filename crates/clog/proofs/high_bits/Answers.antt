@@ -5,22 +5,22 @@ use native.Mathlib.Omega.{arith}
 use Rattle.clog.specs.Slots.{high_bits}
 use Rattle.clog.proofs.high_bits.Goals as goal
 
-pub returns-then-w-eq0 : goal.returns-then-w-eq0
+pub returns-in-0 : goal.returns-in-0
 unfolding high_bits
-returns-then-w-eq0 c = rw c.if-w-eq0.true (omega arith)
+returns-in-0 c = rw c.in-0.is (omega arith)
 
-pub returns-then-w-eq1 : goal.returns-then-w-eq1
+pub returns-in-1 : goal.returns-in-1
 unfolding high_bits
-returns-then-w-eq1 c = rw c.if-w-eq1.true
+returns-in-1 c = rw c.in-1.is
 
-pub returns-then-w-eq2 : goal.returns-then-w-eq2
+pub returns-in-2 : goal.returns-in-2
 unfolding high_bits
-returns-then-w-eq2 c = rw c.if-w-eq2.true
+returns-in-2 c = rw c.in-2.is
 
-pub returns-then-w-eq3 : goal.returns-then-w-eq3
+pub returns-in-3 : goal.returns-in-3
 unfolding high_bits
-returns-then-w-eq3 c = rw c.if-w-eq3.true
+returns-in-3 c = rw c.in-3.is
 
-pub returns : goal.returns
+pub returns-in_default : goal.returns-in_default
 unfolding high_bits
-returns c = let e : min 4 c.args.w ≡ 4 = omega arith in rw e (omega arith)
+returns-in_default c = let e : min 4 c.args.w ≡ 4 = omega arith in rw e (omega arith)

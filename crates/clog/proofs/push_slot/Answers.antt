@@ -20,4 +20,4 @@ bounds-a-n c =
 
 pub returns : goal.returns
 unfolding entry_of push_all
-returns c = rw (ne_eqb _ 0 c.if-c-eq0.false, ← c.loaded_status-status.ensures)
+returns c = rw (ne_eqb _ 0 c.if-c-eq0.false, ← c.loaded_status.ensures)

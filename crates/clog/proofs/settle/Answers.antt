@@ -1,24 +1,15 @@
--- `clog::settle` meets its contract. The loop's invariant: settling what is left gives what was asked for. The measure is how many bytes are left. Assumes nothing.
-use mathlib.Core.Path.{refl, sym, ◌∙◌}
+-- `clog::settle` meets its contract. The loop's invariant: settling what is left gives what was asked for. Assumes nothing.
+use mathlib.Core.Path.{sym, ◌∙◌}
 use native.Mathlib.Omega.{arith}
-use lib.ListN.{length-set}
-use Rattle.clog.proofs.Ways.{settle-turn, settle-end}
+use Rattle.clog.proofs.Ways.{settle-turn, settle-end, sets-whole}
+use lib.ListN.{length-map}
 use Rattle.clog.proofs.settle.Goals as goal
 
-pub loop-i-init : goal.loop-i-init
-loop-i-init c = (refl, refl)
+pub loop-b-init : goal.loop-b-init
+loop-b-init c = sets-whole _ _ (length-map _ _)
 
-pub loop-i-preserved : goal.loop-i-preserved
-loop-i-preserved c =
-    let l = c.loop-i in
-    let a = c.args in
-    let t = settle-turn l.clog l.i a.len (omega arith) (omega arith) c.settled_byte-b.result c.settled_byte-b.ensures in
-    (simp length-set l.invariant.0, t ∙ l.invariant.1)
-
-pub shape_of-clog : goal.shape_of-clog
-shape_of-clog c = c.loop-i.invariant.0
+pub loop-b-preserved : goal.loop-b-preserved
+loop-b-preserved c = let l = c.loop-b in settle-turn l.body l.b-index _ (omega arith) c.settled_byte.ensures ∙ l.invariant
 
 pub returns : goal.returns
-returns c =
-    let l = c.loop-i in
-    sym (settle-end l.clog l.i c.args.len (omega arith)) ∙ l.invariant.1
+returns c = let l = c.loop-b in sym (settle-end l.body l.b-index (omega arith)) ∙ l.invariant

@@ -1,14 +1,10 @@
--- `clog::settle` meets its contract. The loop's invariant: settling what is left gives what was asked for. The measure is how many bytes are left. Assumes nothing.
+-- `clog::settle` meets its contract. The loop's invariant: settling what is left gives what was asked for. Assumes nothing.
 use mathlib.Core.Path.{◌≡◌}
 use mathlib.Core.List.{map}
-use Prim.Native.Nat.{◌-◌}
-use lib.ListN.{length}
-use lib.Seq.{sets, slice}
+use lib.ListN.{drop}
+use lib.Seq.{sets}
 use Rattle.clog.specs.Slots.{settled_byte}
 use Rattle.clog.proofs.settle.Given as goal
 
-abbrev pub invariant-loop-i : goal.invariant-loop-i
-invariant-loop-i l = (length l.clog ≡ length l.initial.clog) × (sets l.clog l.i (map settled_byte (slice l.i l.len l.clog)) ≡ sets l.initial.clog l.h (map settled_byte (slice l.h l.len l.initial.clog)))
-
-abbrev pub decreases-loop-i : goal.decreases-loop-i
-decreases-loop-i l = l.len - l.i
+abbrev pub invariant-loop-b : goal.invariant-loop-b
+invariant-loop-b l = sets l.body l.b-index (map settled_byte (drop l.b-index l.body)) ≡ map settled_byte l.initial.body

@@ -1,12 +1,8 @@
--- `clog::span_below` meets its contract: the bytes after the header, none where the length is under 8. Assumes nothing.
-use mathlib.Core.Path.{◌≡◌, ◌∙◌}
-use Prim.Native.Nat.{◌-◌}
+-- `clog::span_below` meets its contract: whole bytes after the header, and one more where slots are left over. Assumes nothing.
 use native.Mathlib.Omega.{arith}
+use Rattle.clog.specs.Slots.{span_below}
 use Rattle.clog.proofs.span_below.Goals as goal
-use Rattle.clog.proofs.span_below.Goals.{then-len-lt-HEADER, else-len-lt-HEADER}
 
 pub returns : goal.returns
-returns c =
-    let n = c.if-len-lt-HEADER in
-    let e : n.n ≡ c.args.len - 8 = elim n.branch [ then-len-lt-HEADER w ↦ omega arith | else-len-lt-HEADER w ↦ omega arith ] in
-    c.span.ensures ∙ rw e
+unfolding span_below
+returns c = omega (arith, c.min.ensures, c.div_ceil.ensures, c.saturating_sub.ensures)

@@ -1,11 +1,17 @@
--- `ends::advance_to` meets its contract: made ready, and cut. Assumes nothing.
+-- `ends::advance_to` meets its contract: refused, or made ready and cut. Assumes nothing.
 use mathlib.Core.Path.{◌∙◌}
 use Rattle.world.specs.Calls.{Advance}
 use Rattle.lent.specs.Lent.{lent}
-use Rattle.acts.proofs.Laws.{cut-called}
+use Rattle.acts.specs.Made.{accepted}
+use Rattle.acts.proofs.Laws.{refused-cut, cut-called}
 use Rattle.ends.proofs.advance_to.Goals as goal
+
+pub returns-in_err-m : goal.returns-in_err-m
+returns-in_err-m c =
+    let a = c.args in
+    refused-cut 4096 (Advance a.mark) (lent a.h a.rows.now a.resident.now a.touched.now) a.log.now a.db.now a.clog.now a.frames.now c.in_err-m.field-0.0 c.in_err-m.ensures a.k _ c.from_residual.ensures
 
 pub returns : goal.returns
 returns c =
     let a = c.args in
-    c.cut_at.ensures ∙ cut-called 4096 (Advance a.mark) (lent a.h a.rows.now a.resident.now a.touched.now) a.log.now a.db.now a.clog.now a.frames.now c.ready_advance-m.result c.ready_advance-m.ensures a.k
+    c.cut_at.ensures ∙ cut-called 4096 (Advance a.mark) (lent a.h a.rows.now a.resident.now a.touched.now) a.log.now a.db.now a.clog.now a.frames.now (accepted c.in_ok-m.m) c.in_ok-m.ensures a.k

@@ -1,12 +1,15 @@
--- `ends::commit` meets its contract: made ready, and carried out. Assumes nothing.
-use mathlib.Core.Path.{ap, ◌∙◌}
+-- `ends::commit` meets its contract: refused, or made ready and carried out. Assumes nothing.
 use Rattle.world.specs.Calls.{Commit}
 use Rattle.lent.specs.Lent.{lent}
-use Rattle.acts.specs.Made.{Readied, left_by}
-use Rattle.acts.proofs.Laws.{left-called}
+use Rattle.acts.proofs.Laws.{accepted-left, refused-left}
 use Rattle.ends.proofs.commit.Goals as goal
+
+pub returns-in_err-m : goal.returns-in_err-m
+returns-in_err-m c =
+    let a = c.args in
+    refused-left 4096 Commit (lent a.h a.rows.now a.resident.now a.touched.now) a.log.now a.db.now a.clog.now a.frames.now c.in_err-m.field-0.0 c.in_err-m.ensures _ c.from_residual.ensures
 
 pub returns : goal.returns
 returns c =
     let a = c.args in
-    c.carry_out.ensures ∙ ap (λ (x : Readied). left_by 4096 x a.log.now a.db.now a.clog.now) c.ready_commit-m.ensures ∙ left-called 4096 Commit (lent a.h a.rows.now a.resident.now a.touched.now) a.log.now a.db.now a.clog.now a.frames.now
+    accepted-left 4096 Commit (lent a.h a.rows.now a.resident.now a.touched.now) a.log.now a.db.now a.clog.now a.frames.now _ c.in_ok-m.ensures _ c.carry_out.ensures

@@ -1,26 +1,28 @@
 -- `ends::ready_commit` meets its contract: refused by 1 or 14, nothing to do, or sealed. Assumes nothing.
+use native.Mathlib.Omega.{arith}
+use mathlib.Core.Path.{refl}
+use borrow.Author.Rules.{rules}
+use Rattle.world.specs.Calls.{Commit}
 use Rattle.lent.specs.Lent.{lent}
 use Rattle.lent.proofs.Laws.{front-passed}
-use Rattle.acts.proofs.Laws.{made-front}
-use native.Mathlib.Omega.{arith}
-use Rattle.world.specs.Calls.{Commit}
+use Rattle.ready.proofs.Prepared.{no-zero}
+use Rattle.acts.proofs.Laws.{handed-made, made-front}
 use Rattle.ends.proofs.Committed.{commit-none-made, commit-made}
-use borrow.Author.Rules.{rules}
 use Rattle.ends.proofs.ready_commit.Goals as goal
 
-pub returns-then-no-ne-ACCEPTED : goal.returns-then-no-ne-ACCEPTED
-returns-then-no-ne-ACCEPTED c =
+pub returns-in_err-check_front : goal.returns-in_err-check_front
+returns-in_err-check_front c =
     let a = c.args in
-    made-front 4096 Commit (lent a.h a.rows.now a.resident.now a.touched.now) a.log.now a.db.now a.clog.now a.frames.now c.bare.result c.front_no-no.result c.bare.ensures c.front_no-no.ensures c.if-no-ne-ACCEPTED.true
+    made-front 4096 Commit (lent a.h a.rows.now a.resident.now a.touched.now) a.log.now a.db.now a.clog.now a.frames.now _ _ (handed-made a.h _ _ c.from_residual.ensures) c.in_err-check_front.ensures (no-zero _)
 
 pub returns-then-h-ne1 : goal.returns-then-h-ne1
 returns-then-h-ne1 c =
     let a = c.args in
-    let p = (let a = c.args in front-passed 4096 (lent a.h a.rows.now a.resident.now a.touched.now) a.log.now a.db.now a.clog.now a.frames.now c.front_no-no.result c.front_no-no.ensures c.if-no-ne-ACCEPTED.false) in
-    commit-none-made 4096 (lent a.h a.rows.now a.resident.now a.touched.now) (record { rows = search rules; resident = search rules; touched = search rules }) a.log.now a.db.now a.clog.now a.frames.now p.0 p.1 c.bare-then-h-ne1.result c.if-h-ne1.true c.bare-then-h-ne1.ensures
+    let p = front-passed 4096 (lent a.h a.rows.now a.resident.now a.touched.now) a.log.now a.db.now a.clog.now a.frames.now 0 c.in_ok-check_front.ensures refl in
+    commit-none-made 4096 (lent a.h a.rows.now a.resident.now a.touched.now) (record { rows = search rules; resident = search rules; touched = search rules }) a.log.now a.db.now a.clog.now a.frames.now p.0 p.1 _ c.if-h-ne1.true c.bare.ensures
 
 pub returns : goal.returns
 returns c =
     let a = c.args in
-    let p = (let a = c.args in front-passed 4096 (lent a.h a.rows.now a.resident.now a.touched.now) a.log.now a.db.now a.clog.now a.frames.now c.front_no-no.result c.front_no-no.ensures c.if-no-ne-ACCEPTED.false) in
-    commit-made 4096 (lent a.h a.rows.now a.resident.now a.touched.now) (record { rows = search rules; resident = search rules; touched = search rules }) a.log.now a.db.now a.clog.now a.frames.now p.0 p.1 c.seal.result c.if-h-ne1.false (omega arith) c.commit_ending-x.result c.commit_ending-x.ensures c.seal.ensures
+    let p = front-passed 4096 (lent a.h a.rows.now a.resident.now a.touched.now) a.log.now a.db.now a.clog.now a.frames.now 0 c.in_ok-check_front.ensures refl in
+    commit-made 4096 (lent a.h a.rows.now a.resident.now a.touched.now) (record { rows = search rules; resident = search rules; touched = search rules }) a.log.now a.db.now a.clog.now a.frames.now p.0 p.1 _ c.if-h-ne1.false (omega arith) _ c.commit_ending-x.ensures c.seal.ensures

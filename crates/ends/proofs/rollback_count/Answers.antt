@@ -1,11 +1,17 @@
--- `ends::rollback_count` meets its contract: made ready, and counted. Assumes nothing.
+-- `ends::rollback_count` meets its contract: refused, or made ready and counted. Assumes nothing.
 use mathlib.Core.Path.{◌∙◌}
 use Rattle.world.specs.Calls.{Rollback}
 use Rattle.lent.specs.Lent.{lent}
-use Rattle.acts.proofs.Laws.{count-called}
+use Rattle.acts.specs.Made.{accepted}
+use Rattle.acts.proofs.Laws.{refused-count, count-called}
 use Rattle.ends.proofs.rollback_count.Goals as goal
+
+pub returns-in_err-m : goal.returns-in_err-m
+returns-in_err-m c =
+    let a = c.args in
+    refused-count 4096 (Rollback a.list.now) (lent a.h a.rows.now a.resident.now a.touched.now) a.log.now a.db.now a.clog.now a.frames.now c.in_err-m.field-0.0 c.in_err-m.ensures _ c.from_residual.ensures
 
 pub returns : goal.returns
 returns c =
     let a = c.args in
-    c.count_of.ensures ∙ count-called 4096 (Rollback a.list.now) (lent a.h a.rows.now a.resident.now a.touched.now) a.log.now a.db.now a.clog.now a.frames.now c.ready_rollback-m.result c.ready_rollback-m.ensures
+    c.count_of.ensures ∙ count-called 4096 (Rollback a.list.now) (lent a.h a.rows.now a.resident.now a.touched.now) a.log.now a.db.now a.clog.now a.frames.now (accepted c.in_ok-m.m) c.in_ok-m.ensures

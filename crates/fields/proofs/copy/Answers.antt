@@ -1,23 +1,6 @@
--- `fields::copy` meets its contract: what is left to store, stored, gives what was asked for. Assumes nothing.
-use mathlib.Core.Path.{refl, sym, ◌∙◌}
-use native.Mathlib.Omega.{arith}
-use lib.ListN.{length-set}
-use Rattle.fields.proofs.Stored.{copy-turn, copy-end}
+-- `fields::copy` meets its contract: the bytes that fit are stored. Assumes nothing.
+use Rattle.fields.proofs.Stored.{copied}
 use Rattle.fields.proofs.copy.Goals as goal
 
-pub loop-i-init : goal.loop-i-init
-loop-i-init c = (c.inside-k.ensures, refl, refl)
-
-pub loop-i-preserved : goal.loop-i-preserved
-loop-i-preserved c =
-    let l = c.loop-i in
-    let a = c.args in (
-      simp length-set l.invariant.0,
-      simp length-set l.invariant.1,
-      sym (copy-turn l.dst a.src.now l.i (omega arith)) ∙ l.invariant.2,
-    )
-
 pub returns : goal.returns
-returns c =
-    let l = c.loop-i in
-    sym (copy-end l.dst c.args.src.now l.i c.inside-k.result l.invariant.0 (omega arith)) ∙ l.invariant.2
+returns c = copied c.args.dst.now c.args.src.now _ c.inside-k.result c.inside-k.ensures c.copy_from_slice.ensures.after

@@ -1,23 +1,10 @@
--- `fields::zero_fill` meets its contract: what is left to store, stored, gives what was asked for. Assumes nothing.
-use mathlib.Core.Path.{refl, sym, ◌∙◌}
-use native.Mathlib.Omega.{arith}
-use lib.ListN.{length-set}
-use Rattle.fields.proofs.Stored.{zeros-turn, zeros-end}
+-- `fields::zero_fill` meets its contract: the zeros that fit are stored. Assumes nothing.
+use Rattle.std.proofs.Common.{sym}
+use Rattle.fields.proofs.Stored.{zeros-fit, zeros-none}
 use Rattle.fields.proofs.zero_fill.Goals as goal
 
-pub loop-i-init : goal.loop-i-init
-loop-i-init c = (c.inside-end.ensures, refl, refl)
+pub returns-then-from-end : goal.returns-then-from-end
+returns-then-from-end c = zeros-fit c.args.b.now _ c.args.from c.args.to c.inside-end.result c.inside-end.ensures c.if-from-end.true (c.fill.ensures.after (λ y e. e))
 
-pub loop-i-preserved : goal.loop-i-preserved
-loop-i-preserved c =
-    let l = c.loop-i in
-    let a = c.args in (
-      simp length-set l.invariant.0,
-      simp length-set l.invariant.1,
-      sym (zeros-turn l.b l.i a.to (omega arith)) ∙ l.invariant.2,
-    )
-
-pub returns : goal.returns
-returns c =
-    let l = c.loop-i in
-    sym (zeros-end l.b l.i c.args.to c.inside-end.result l.invariant.0 (omega arith)) ∙ l.invariant.2
+pub returns-else-from-end : goal.returns-else-from-end
+returns-else-from-end c = sym (zeros-none c.args.b.now c.args.from c.args.to c.inside-end.result c.inside-end.ensures c.if-from-end.false)

@@ -1,30 +1,20 @@
--- `frames::any_bad` meets its contract. The loop's invariant: what is left of the pages gives the answer. The measure is how many are left. Assumes nothing.
-use mathlib.Core.Path.{◌≡◌, refl, sym, ◌∙◌}
-use native.Mathlib.Omega.{arith}
-use borrow.Author.Rules.{rules}
-use lib.ListN.{length}
-use Rattle.frames.proofs.Turns.{bad-here, bad-on, bad-end}
+-- `frames::any_bad` meets its contract. The loop's invariant: what is left of the pages gives the answer. Assumes nothing.
+use mathlib.Core.Path.{sym, ◌∙◌}
+use borrow.Author.Tests.{le-leb, lt-leb}
+use Rattle.frames.proofs.Turns.{bad-step, bad-past}
 use Rattle.frames.proofs.any_bad.Goals as goal
 
-pub loop-i-init : goal.loop-i-init
-loop-i-init c = refl
+pub returns-then-page-ge-NO_PAGE : goal.returns-then-page-ge-NO_PAGE
+returns-then-page-ge-NO_PAGE c =
+    let l = c.loop-page in
+    sym (bad-step c.args.pages.now l.page-index _ (le-leb 4294967295 _ c.if-page-ge-NO_PAGE.true) c.loop-page-test.true) ∙ l.invariant
 
-pub returns-then-pages-i-ge-NO_PAGE : goal.returns-then-pages-i-ge-NO_PAGE
-returns-then-pages-i-ge-NO_PAGE c =
-    let a = c.args in
-    let l = c.loop-i in
-    let len : length a.pages ≡ 64 = search rules in
-    sym (bad-here a.pages a.n l.i c.if-pages-i-ge-NO_PAGE.true (omega arith) (omega arith)) ∙ l.invariant
-
-pub loop-i-preserved : goal.loop-i-preserved
-loop-i-preserved c =
-    let a = c.args in
-    let l = c.loop-i in
-    let len : length a.pages ≡ 64 = search rules in
-    sym (bad-on a.pages a.n l.i c.if-pages-i-ge-NO_PAGE.false (omega arith) (omega arith)) ∙ l.invariant
+pub loop-page-preserved : goal.loop-page-preserved
+loop-page-preserved c =
+    let l = c.loop-page in
+    sym (bad-step c.args.pages.now l.page-index _ (lt-leb 4294967295 _ c.if-page-ge-NO_PAGE.false) c.loop-page-test.true) ∙ l.invariant
 
 pub returns : goal.returns
 returns c =
-    let a = c.args in
-    let l = c.loop-i in
-    sym (bad-end a.pages a.n l.i (omega arith)) ∙ l.invariant
+    let l = c.loop-page in
+    sym (bad-past c.args.pages.now l.page-index c.loop-page-test.false) ∙ l.invariant

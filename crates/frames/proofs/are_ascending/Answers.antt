@@ -1,37 +1,12 @@
--- `frames::are_ascending` meets its contract. The loop's invariant: the pages are ascending if they are from page i - 1 on. The measure is how many are left.
--- Assumes nothing.
-use mathlib.Core.Path.{◌≡◌, refl, sym, ◌∙◌}
-use Prim.Native.Nat.{◌+◌, ◌-◌}
-use native.Mathlib.Omega.{arith}
-use borrow.Author.Rules.{rules}
-use lib.ListN.{length}
-use Rattle.sorted.proofs.Laws.{ascending-on, ascending-stop, ascending-end}
+-- `frames::are_ascending` meets its contract: the library's test for order, with strict comparison, is the test for ascending pages. Assumes nothing.
+use borrow.Author.Rules.{rules, of_calls}
+use lib.Dec.{ltb}
+use Rattle.std.proofs.lemmas.List.Sorted.{answers_always}
+use Rattle.sorted.proofs.Laws.{ascending-adjacent}
 use Rattle.frames.specs.Pages.{number}
 use Rattle.frames.proofs.are_ascending.Goals as goal
 
-pub loop-i-init : goal.loop-i-init
-loop-i-init c = (search rules, search rules, refl)
-
-pub returns-then-pages-i : goal.returns-then-pages-i
-returns-then-pages-i c =
-    let a = c.args in
-    let l = c.loop-i in
-    let len : length a.pages ≡ 64 = search rules in
-    sym (l.invariant.2 ∙ ascending-stop number 0 a.pages a.n l.i (omega arith) (omega arith) (omega arith) c.if-pages-i.true)
-
-pub loop-i-preserved : goal.loop-i-preserved
-loop-i-preserved c =
-    let a = c.args in
-    let l = c.loop-i in
-    let len : length a.pages ≡ 64 = search rules in
-    let e : l.i + 1 - 1 ≡ l.i = omega arith in (
-      omega arith,
-      omega arith,
-      l.invariant.2 ∙ rw e (ascending-on number 0 a.pages a.n l.i (omega arith) (omega arith) (omega arith) c.if-pages-i.false),
-    )
-
 pub returns : goal.returns
 returns c =
-    let a = c.args in
-    let l = c.loop-i in
-    sym (l.invariant.2 ∙ ascending-end number 0 a.pages a.n l.i (omega arith))
+    ascending-adjacent number 0 c.args.pages.now c.is_sorted_by.result
+    (c.is_sorted_by.ensures.cases (λ x y. ltb x y) (answers_always _ _ _ (λ f a r g h. search (rules, of_calls))))

@@ -1,41 +1,23 @@
 -- `frames::find` meets its contract. The loop's invariant: what was passed does not hold the page, so that it stands in what is left or nowhere.
--- The measure is how many are left. Assumes nothing.
-use mathlib.Core.Path.{◌≡◌, refl, sym, ◌∙◌}
-use native.Mathlib.Nat.{zero-add}
+-- Assumes nothing.
+use mathlib.Core.Path.{sym, ◌∙◌}
 use native.Mathlib.Omega.{arith}
-use borrow.Author.Rules.{rules}
-use lib.ListN.{length}
-use Rattle.frames.specs.Pages.{resident_of}
-use Rattle.frames.proofs.Turns.{in-here, in_on, in_end, slot-here, slot-on, found_at, found_none}
+use Rattle.frames.proofs.Turns.{in-past, found-here, found-on, found_at, found_none}
 use Rattle.frames.proofs.find.Goals as goal
 
-pub loop-i-init : goal.loop-i-init
-loop-i-init c = (search rules, refl, sym (zero-add _))
+pub returns-then-x-page : goal.returns-then-x-page
+returns-then-x-page c =
+    let l = c.loop-slot in
+    let h = found-here _ l.slot c.args.page c.if-x-page.true c.loop-slot-test.true in
+    rw (← c.held-x-items.ensures.list) (sym (found_at c.args.page _ l.slot (l.invariant.0 ∙ h.0) (omega (arith, l.invariant.1, h.1))))
 
-pub returns-then-f-i : goal.returns-then-f-i
-returns-then-f-i c =
-    let l = c.loop-i in
-    let a = c.args in
-    let f = a.f in
-    let len : length f.pages ≡ 64 = search rules in
-    let h = in-here f.pages f.count l.i a.page c.if-f-i.true (omega arith) (omega arith) in
-    let s = slot-here f.pages f.count l.i a.page c.if-f-i.true (omega arith) (omega arith) in
-    sym (found_at a.page (resident_of f) l.i (l.invariant.1 ∙ h) (omega (arith, l.invariant.2)))
-
-pub loop-i-preserved : goal.loop-i-preserved
-loop-i-preserved c =
-    let l = c.loop-i in
-    let a = c.args in
-    let f = a.f in
-    let len : length f.pages ≡ 64 = search rules in
-    let h = in_on f.pages f.count l.i a.page c.if-f-i.false (omega arith) (omega arith) in
-    let s = slot-on f.pages f.count l.i a.page c.if-f-i.false (omega arith) (omega arith) in
-    (omega arith, l.invariant.1 ∙ h, omega (arith, l.invariant.2))
+pub loop-slot-preserved : goal.loop-slot-preserved
+loop-slot-preserved c =
+    let l = c.loop-slot in
+    let h = found-on _ l.slot c.args.page c.if-x-page.false c.loop-slot-test.true in
+    (l.invariant.0 ∙ h.0, omega (arith, l.invariant.1, h.1))
 
 pub returns : goal.returns
 returns c =
-    let l = c.loop-i in
-    let a = c.args in
-    let f = a.f in
-    let len : length f.pages ≡ 64 = search rules in
-    sym (found_none a.page (resident_of f) (l.invariant.1 ∙ in_end f.pages f.count l.i a.page (omega arith)))
+    let l = c.loop-slot in
+    rw (← c.held-x-items.ensures.list) (sym (found_none c.args.page _ (l.invariant.0 ∙ in-past _ l.slot c.args.page c.loop-slot-test.false)))

@@ -1,13 +1,10 @@
 -- `frames::find` meets its contract. The loop's invariant: what was passed does not hold the page, so that it stands in what is left or nowhere.
--- The measure is how many are left. Assumes nothing.
+-- Assumes nothing.
 use mathlib.Core.Path.{◌≡◌}
-use Prim.Native.Nat.{◌+◌, ◌-◌, ◌≤◌}
+use Prim.Native.Nat.{◌+◌}
 use lib.ListN.{drop}
-use Rattle.frames.specs.Pages.{is_in, slot_of, resident_of}
+use Rattle.frames.specs.Pages.{is_in, slot_of}
 use Rattle.frames.proofs.find.Given as goal
 
-abbrev pub invariant-loop-i : goal.invariant-loop-i
-invariant-loop-i l = (l.i ≤ l.n) × (is_in l.page (resident_of l.f) ≡ is_in l.page (drop l.i (resident_of l.f))) × (slot_of l.page (resident_of l.f) ≡ l.i + slot_of l.page (drop l.i (resident_of l.f)))
-
-abbrev pub decreases-loop-i : goal.decreases-loop-i
-decreases-loop-i l = l.n - l.i
+abbrev pub invariant-loop-slot : goal.invariant-loop-slot
+invariant-loop-slot l = (is_in l.page l.x-items ≡ is_in l.page (drop l.slot l.x-items)) × (slot_of l.page l.x-items ≡ l.slot + slot_of l.page (drop l.slot l.x-items))

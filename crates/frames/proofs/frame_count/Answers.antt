@@ -1,12 +1,8 @@
 -- `frames::frame_count` meets its contract. Assumes nothing.
-use native.Mathlib.Omega.{arith}
+use borrow.Author.Rules.{rules}
 use Rattle.frames.specs.Pages.{frame_count}
 use Rattle.frames.proofs.frame_count.Goals as goal
 
-pub returns-then-n-lt-LIMIT : goal.returns-then-n-lt-LIMIT
+pub returns : goal.returns
 unfolding frame_count
-returns-then-n-lt-LIMIT c = omega arith
-
-pub returns-else-n-lt-LIMIT : goal.returns-else-n-lt-LIMIT
-unfolding frame_count
-returns-else-n-lt-LIMIT c = omega arith
+returns c = search rules

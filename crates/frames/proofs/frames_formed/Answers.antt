@@ -1,35 +1,32 @@
--- `frames::frames_formed` meets its contract: over the limit, a page twice, or the rest decides. Assumes nothing.
-use mathlib.Core.Path.{sym, ◌∙◌}
+-- `frames::frames_formed` meets its contract: within the limit, no page twice, and none that is no page's. Assumes nothing.
+use mathlib.Core.Path.{◌≡◌}
+use mathlib.Core.Bool.{◌&&◌}
 use native.Mathlib.Omega.{arith}
-use borrow.Author.Tests.{not-true, not-false}
-use Rattle.frames.specs.Pages.{frame_count}
-use Rattle.frames.proofs.Values.{frames-over, frames-fit}
+use borrow.Author.Tests.{le-leb, lt-leb}
+use lib.Dec.{leb}
+use Rattle.frames.specs.Pages.{resident_of, distinct, frame_count}
+use Rattle.frames.proofs.Values.{frames-tested}
 use Rattle.frames.proofs.frames_formed.Goals as goal
+use Rattle.frames.proofs.frames_formed.Goals.{then-f-frame_count, else-f-frame_count}
 
-pub returns-then-most-n : goal.returns-then-most-n
-returns-then-most-n c =
-    let a = c.args in
-    let e = c.frame_count-most.ensures in
-    sym (frames-over 64 4096 a.f a.size (omega (arith, e)))
+pub returns-then-are_distinct : goal.returns-then-are_distinct
+returns-then-are_distinct c =
+    let f = c.args.f in
+    let n = frame_count 64 4096 c.args.size in
+    let v : c.if-f-frame_count.value ≡ (leb f.count n && distinct (resident_of f)) =
+    elim c.if-f-frame_count.branch [
+      | then-f-frame_count w ↦ rw (w.value-is, w.are_distinct.ensures, c.held-pages.ensures.list, le-leb f.count n (omega (arith, c.frame_count.ensures, w.if-f-frame_count.true)))
+      | else-f-frame_count w ↦ rw (w.value-is, c.frame_count.ensures, lt-leb f.count n (omega (arith, c.frame_count.ensures, w.if-f-frame_count.false)))
+    ] in
+    rw (frames-tested 64 4096 f c.args.size _ v, c.if-are_distinct.true, c.any_bad.ensures, c.held-pages.ensures.list)
 
-pub are_distinct-requires : goal.are_distinct-requires
-unfolding frame_count
-are_distinct-requires c = omega (arith, c.frame_count-most.ensures)
-
-pub returns-then-not-are_distinct : goal.returns-then-not-are_distinct
-returns-then-not-are_distinct c =
-    let a = c.args in
-    let e = c.frame_count-most.ensures in
-    let h = sym c.are_distinct.ensures ∙ not-true c.are_distinct.result c.if-not-are_distinct.true-raw in
-    rw (frames-fit 64 4096 a.f a.size (omega (arith, e)), h)
-
-pub any_bad-bad-requires : goal.any_bad-bad-requires
-unfolding frame_count
-any_bad-bad-requires c = omega (arith, c.frame_count-most.ensures)
-
-pub returns : goal.returns
-returns c =
-    let a = c.args in
-    let e = c.frame_count-most.ensures in
-    let h = sym c.are_distinct.ensures ∙ not-false c.are_distinct.result c.if-not-are_distinct.false-raw in
-    rw (frames-fit 64 4096 a.f a.size (omega (arith, e)), h, ← c.any_bad-bad.ensures)
+pub returns-else-are_distinct : goal.returns-else-are_distinct
+returns-else-are_distinct c =
+    let f = c.args.f in
+    let n = frame_count 64 4096 c.args.size in
+    let v : c.if-f-frame_count.value ≡ (leb f.count n && distinct (resident_of f)) =
+    elim c.if-f-frame_count.branch [
+      | then-f-frame_count w ↦ rw (w.value-is, w.are_distinct.ensures, c.held-pages.ensures.list, le-leb f.count n (omega (arith, c.frame_count.ensures, w.if-f-frame_count.true)))
+      | else-f-frame_count w ↦ rw (w.value-is, c.frame_count.ensures, lt-leb f.count n (omega (arith, c.frame_count.ensures, w.if-f-frame_count.false)))
+    ] in
+    rw (frames-tested 64 4096 f c.args.size _ v, c.if-are_distinct.false)

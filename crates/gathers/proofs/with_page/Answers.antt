@@ -14,5 +14,5 @@ returns-in_default c =
 pub returns : goal.returns
 returns c =
     let a = c.args in
-    let f = c.in-At.is in
+    let f = c.in-Some.is in
     rw (seat-some a.want a.page _ a.place (not-false _ c.if-not-want.false-raw) f)

@@ -12,4 +12,4 @@ pub returns : goal.returns
 returns c =
     let a = c.args in
     let len : length a.s.table.entries ≡ 256 = search (rules, length-of-mapped) in
-    c.hand_after.ensures ∙ ap (λ (k : ℕ). handed 256 a.s.table a.out.now k) c.front_no-no.ensures ∙ table-handed 4096 a.s a.log.now a.db.now a.clog.now a.frames.now len a.out.now
+    c.hand_after.ensures ∙ ap (λ (k : ℕ). handed 256 a.s.table a.out.now k) c.check_front-before.ensures ∙ table-handed 4096 a.s a.log.now a.db.now a.clog.now a.frames.now len a.out.now

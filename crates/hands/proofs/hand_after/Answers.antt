@@ -1,42 +1,41 @@
--- `hands::hand_after` meets its contract: what the loop has laid is `up_to` at its counter. Assumes nothing.
-use native.Mathlib.Omega.{arith}
-use native.Mathlib.Numerals.{add-one}
+-- `hands::hand_after` meets its contract: refused as `to_hand` told, or the first entries go in front, as many as go. Assumes nothing.
+use mathlib.Core.Path.{◌≡◌, ap, ◌∙◌}
 use borrow.Author.Rules.{rules}
-use mathlib.Core.Path.{◌≡◌, sym, ap, ◌∙◌}
-use lib.ListN.{length, set, length-set}
-use Rattle.sorted.proofs.Laws.{length-of-mapped}
-use Rattle.table.specs.Entries.{blank}
-use mathlib.Core.List.{List}
+use native.Mathlib.Omega.{arith}
+use lib.ListN.{length, length-take}
+use Rattle.fields.specs.Refusals.{number_in}
+use Rattle.fields.proofs.AnswerLaws.{handed-on}
 use Rattle.table.specs.declared.Entry.{Entry}
-use Rattle.hands.specs.Inside.{to_hand}
-use Rattle.hands.proofs.HandLaws.{up_to, up_to-next, hand-le, hand-done}
+use Rattle.sorted.proofs.Laws.{length-of-mapped}
+use Rattle.hands.specs.Handing.{handed_as}
+use Rattle.hands.proofs.HandLaws.{hand-refused, hand-le, hand-done}
 use Rattle.hands.proofs.hand_after.Goals as goal
 
-pub entry_at-requires : goal.entry_at-requires
-entry_at-requires c = omega (arith, (hand-le 256 c.args.t (length c.args.out.now) c.args.before).0)
+pub returns-in_err-n : goal.returns-in_err-n
+returns-in_err-n c =
+    let a = c.args in
+    ap (λ r. handed_as r a.out.now) (handed-on _ _ c.from_residual.ensures) ∙ hand-refused 256 a.t a.out.now _ c.in_err-n.field-0.0 c.in_err-n.ensures
 
-pub offset_bounds-out-i : goal.offset_bounds-out-i
-offset_bounds-out-i c = omega (arith, (hand-le 256 c.args.t (length c.args.out.now) c.args.before).0)
+pub slice_bounds-copy_from_slice-end : goal.slice_bounds-copy_from_slice-end
+slice_bounds-copy_from_slice-end c = let a = c.args in (hand-le 256 a.t (length a.out.now) c.in_ok-n.n (number_in a.before) c.in_ok-n.ensures).1
 
-pub bounds-out-i : goal.bounds-out-i
-bounds-out-i c = omega (arith, (hand-le 256 c.args.t (length c.args.out.now) c.args.before).1)
+pub slice_bounds-copy_from_slice-end-2 : goal.slice_bounds-copy_from_slice-end-2
+slice_bounds-copy_from_slice-end-2 c =
+    let a = c.args in
+    omega (arith, length-take {A = Entry}, (hand-le 256 a.t (length a.out.now) c.in_ok-n.n (number_in a.before) c.in_ok-n.ensures).1)
 
-pub loop-i-preserved : goal.loop-i-preserved
-loop-i-preserved c =
-    let l = c.loop-i in
-    let t = c.args.t in
-    let le = hand-le 256 t (length c.args.out.now) c.args.before in
-    let len : length t.entries ≡ 256 = search (rules, length-of-mapped) in (
-      omega arith,
-      length-set l.out l.i c.entry_at.result ∙ l.invariant.1,
-      ap (λ (o : List Entry). set o l.i c.entry_at.result) l.invariant.2 ∙ ap (set (up_to t.entries c.args.out.now l.i) l.i) c.entry_at.ensures ∙ up_to-next t.entries c.args.out.now l.i blank (omega arith) (omega arith) ∙ ap (up_to t.entries c.args.out.now) (sym (add-one l.i)),
-    )
+pub shared_ref_as_front-copy_from_slice : goal.shared_ref_as_front-copy_from_slice
+shared_ref_as_front-copy_from_slice c = let a = c.args in (hand-le 256 a.t (length a.out.now) c.in_ok-n.n (number_in a.before) c.in_ok-n.ensures).0
+
+pub copy_from_slice-requires : goal.copy_from_slice-requires
+copy_from_slice-requires c =
+    let a = c.args in
+    let len : length a.t.entries ≡ 256 = search (rules, length-of-mapped) in
+    let le = hand-le 256 a.t (length a.out.now) c.in_ok-n.n (number_in a.before) c.in_ok-n.ensures in
+    omega (arith, length-take {A = Entry}, le.0, le.1)
 
 pub returns : goal.returns
 returns c =
-    let l = c.loop-i in
-    let t = c.args.t in
-    let xs = c.args.out.now in
-    let len : length t.entries ≡ 256 = search (rules, length-of-mapped) in
-    let i : l.i ≡ to_hand 256 t (length xs) c.args.before = omega arith in
-    rw (c.reply.ensures, l.invariant.1, l.invariant.2, i) (hand-done 256 t len xs c.args.before)
+    let a = c.args in
+    let len : length a.t.entries ≡ 256 = search (rules, length-of-mapped) in
+    rw c.copy_from_slice.ensures.after (hand-done 256 a.t a.out.now (number_in a.before) len c.in_ok-n.n c.in_ok-n.ensures)

@@ -1,12 +1,12 @@
 -- `hostcalls::nyotmelang_pager_begin` meets its contract: the head is read, the call made, and what comes of it handed to the host. Assumes nothing.
 use Rattle.world.specs.Calls.{Begin}
 use Rattle.lent.specs.Lent.{lent, called_lent}
-use Rattle.words.proofs.Laws.{stood}
+use Rattle.words.proofs.Laws.{answered}
 use Rattle.hostcalls.proofs.nyotmelang_pager_begin.Goals as goal
 
 pub returns : goal.returns
 returns c =
     let a = c.args in
-    stood
+    answered
     (λ h. called_lent 4096 (Begin (record { 0 = a.id })) (lent h a.rows.now a.resident.now a.touched.now) a.log.now a.db.now a.clog.now a.frames.now)
-    c.head_in-h.result c.begin-r.result.head _ _ _ _ _ _ _ _ _ _ c.head_in-h.ensures c.put_head.ensures c.begin-r.ensures
+    c.head_in-h.result c.begin-r.result _ _ _ _ _ _ _ _ _ _ c.head_in-h.ensures c.answer.ensures.number c.answer.ensures.words c.begin-r.ensures

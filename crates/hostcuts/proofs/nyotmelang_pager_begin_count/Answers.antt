@@ -2,6 +2,7 @@
 use Rattle.world.specs.Calls.{Begin}
 use Rattle.lent.specs.Lent.{lent}
 use Rattle.acts.specs.Partly.{counted_lent}
+use Rattle.ready.specs.Ready.{counted}
 use Rattle.hostcuts.proofs.Laws.{count-given}
 use Rattle.hostcuts.proofs.nyotmelang_pager_begin_count.Goals as goal
 
@@ -10,4 +11,4 @@ returns c =
     let a = c.args in
     count-given
     (λ h. counted_lent 4096 (Begin (record { 0 = a.id })) (lent h a.rows.now a.resident.now a.touched.now) a.log.now a.db.now a.clog.now a.frames.now)
-    c.head_in-h.result _ c.begin_count-r.result _ _ c.head_in-h.ensures c.begin_count-r.ensures c.give_count.ensures
+    c.head_in-h.result _ (counted c.begin_count-r.result) _ _ c.head_in-h.ensures c.begin_count-r.ensures c.give_count.ensures

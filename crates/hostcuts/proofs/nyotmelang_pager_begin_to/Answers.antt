@@ -2,6 +2,7 @@
 use Rattle.world.specs.Calls.{Begin}
 use Rattle.lent.specs.Lent.{lent}
 use Rattle.acts.specs.Partly.{cut_lent}
+use Rattle.stores.specs.Room.{cut}
 use Rattle.hostcuts.proofs.Laws.{cut-given}
 use Rattle.hostcuts.proofs.nyotmelang_pager_begin_to.Goals as goal
 
@@ -10,4 +11,4 @@ returns c =
     let a = c.args in
     cut-given
     (λ h. cut_lent 4096 a.k (Begin (record { 0 = a.id })) (lent h a.rows.now a.resident.now a.touched.now) a.log.now a.db.now a.clog.now a.frames.now)
-    c.head_in-h.result _ c.begin_to-r.result _ _ _ _ _ c.head_in-h.ensures c.begin_to-r.ensures c.give_cut.ensures
+    c.head_in-h.result _ (cut c.head_in-h.result.lens c.begin_to-r.result) _ _ _ _ _ c.head_in-h.ensures c.begin_to-r.ensures c.give_cut.ensures

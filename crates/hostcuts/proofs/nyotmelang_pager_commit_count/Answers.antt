@@ -2,6 +2,7 @@
 use Rattle.world.specs.Calls.{Commit}
 use Rattle.lent.specs.Lent.{lent}
 use Rattle.acts.specs.Partly.{counted_lent}
+use Rattle.ready.specs.Ready.{counted}
 use Rattle.hostcuts.proofs.Laws.{count-given}
 use Rattle.hostcuts.proofs.nyotmelang_pager_commit_count.Goals as goal
 
@@ -10,4 +11,4 @@ returns c =
     let a = c.args in
     count-given
     (λ h. counted_lent 4096 Commit (lent h a.rows.now a.resident.now a.touched.now) a.log.now a.db.now a.clog.now a.frames.now)
-    c.head_in-h.result _ c.commit_count-r.result _ _ c.head_in-h.ensures c.commit_count-r.ensures c.give_count.ensures
+    c.head_in-h.result _ (counted c.commit_count-r.result) _ _ c.head_in-h.ensures c.commit_count-r.ensures c.give_count.ensures

@@ -4,17 +4,11 @@ use Rattle.fields.specs.Files.{file_of}
 use Rattle.opens.proofs.Clogs.{is-reset}
 use Rattle.keyon.proofs.clog_by.Goals as goal
 
-pub returns-in-Meta : goal.returns-in-Meta
-returns-in-Meta c = c.load_clog.ensures ∙ rw c.in-Meta.is
+pub returns-in-Some : goal.returns-in-Some
+returns-in-Some c = c.load_clog.ensures ∙ rw c.in-Some.is
 
-pub returns-in-Nothing : goal.returns-in-Nothing
-returns-in-Nothing c =
+pub returns-in-None : goal.returns-in-None
+returns-in-None c =
     let a = c.args in
-    rw (c.length_of.ensures, c.in-Nothing.is)
+    rw (c.unwrap_or.ensures, c.in-None.is)
     (is-reset (file_of a.clog.now a.len) c.requires.0 c.requires.1 c.reset.result c.reset.new.clog c.reset.ensures)
-
-pub returns-in-Outside : goal.returns-in-Outside
-returns-in-Outside c =
-    let a = c.args in
-    rw (c.length_of-in-Outside.ensures, c.in-Outside.is)
-    (is-reset (file_of a.clog.now a.len) c.requires.0 c.requires.1 c.reset-in-Outside.result c.reset-in-Outside.new.clog c.reset-in-Outside.ensures)

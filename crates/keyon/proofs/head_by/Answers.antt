@@ -2,11 +2,8 @@
 use mathlib.Core.Path.{◌∙◌}
 use Rattle.keyon.proofs.head_by.Goals as goal
 
-pub returns-in-Meta : goal.returns-in-Meta
-returns-in-Meta c = c.head_at.ensures ∙ rw (c.in-Meta.is, c.meta_counters.ensures)
+pub returns-in-Some : goal.returns-in-Some
+returns-in-Some c = c.head_at.ensures ∙ rw (c.in-Some.is, c.meta_counters.ensures)
 
-pub returns-in-Nothing : goal.returns-in-Nothing
-returns-in-Nothing c = c.head_at-in-Nothing.ensures ∙ rw (c.in-Nothing.is, c.plain_counters.ensures)
-
-pub returns-in-Outside : goal.returns-in-Outside
-returns-in-Outside c = c.head_at-in-Outside.ensures ∙ rw (c.in-Outside.is, c.plain_counters-in-Outside.ensures)
+pub returns-in-None : goal.returns-in-None
+returns-in-None c = c.head_at-in-None.ensures ∙ rw (c.in-None.is, c.plain_counters.ensures)

@@ -2,11 +2,8 @@
 use mathlib.Core.Path.{◌∙◌}
 use Rattle.keyon.proofs.lay_rows.Goals as goal
 
-pub returns-in-Meta : goal.returns-in-Meta
-returns-in-Meta c = c.lay.ensures ∙ rw c.in-Meta.is
+pub returns-in-Some : goal.returns-in-Some
+returns-in-Some c = c.lay.ensures ∙ rw c.in-Some.is
 
-pub returns-in-Nothing : goal.returns-in-Nothing
-returns-in-Nothing c = c.lay-in-Nothing.ensures ∙ rw c.in-Nothing.is
-
-pub returns-in-Outside : goal.returns-in-Outside
-returns-in-Outside c = c.lay-in-Outside.ensures ∙ rw c.in-Outside.is
+pub returns-in-None : goal.returns-in-None
+returns-in-None c = c.lay-in-None.ensures ∙ rw c.in-None.is

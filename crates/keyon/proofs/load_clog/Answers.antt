@@ -15,11 +15,11 @@ pub record_all-requires : goal.record_all-requires
 record_all-requires c =
     let a = c.args in
     let n = c.settle.auto.clog ∙ c.open.auto.clog in
-    let m = loads (file_of c.args.clog.now c.args.len) c.requires.0 c.requires.1 c.settle.new.clog _ (let g = is_open (file_of c.args.clog.now c.args.len) c.requires.0 c.requires.1 c.open.result c.open.new.clog c.open.ensures in settled-file c.open.new.clog c.settle.new.clog c.length_of-end.result c.settle.ensures ∙ ap (settled 8) (rw c.length_of-end.ensures g)) in
+    let m = loads (file_of c.args.clog.now c.args.len) c.requires.0 c.requires.1 c.settle.new.clog _ (let g = is_open (file_of c.args.clog.now c.args.len) c.requires.0 c.requires.1 c.open.result c.open.new.clog c.open.ensures in settled-file c.open.new.clog c.settle.new.clog c.unwrap_or-end.result c.settle.ensures ∙ ap (settled 8) (rw c.unwrap_or-end.ensures g)) in
     rw n (fit-len _ _ _ _ c.requires.0 m.within, m.head, rw (map_first a.n a.logged.now) at c.requires.3)
 
 pub returns : goal.returns
 returns c =
     let a = c.args in
     let f = settled 8 (open_clog (file_of c.args.clog.now c.args.len)) in
-    c.record_all.ensures ∙ ap (record_all 8 0 (take a.n (map entry_of a.logged.now))) (let g = is_open (file_of c.args.clog.now c.args.len) c.requires.0 c.requires.1 c.open.result c.open.new.clog c.open.ensures in settled-file c.open.new.clog c.settle.new.clog c.length_of-end.result c.settle.ensures ∙ ap (settled 8) (rw c.length_of-end.ensures g)) ∙ ap (λ (x : List Entry). record_all 8 0 x f) (sym (map_first a.n a.logged.now))
+    c.record_all.ensures ∙ ap (record_all 8 0 (take a.n (map entry_of a.logged.now))) (let g = is_open (file_of c.args.clog.now c.args.len) c.requires.0 c.requires.1 c.open.result c.open.new.clog c.open.ensures in settled-file c.open.new.clog c.settle.new.clog c.unwrap_or-end.result c.settle.ensures ∙ ap (settled 8) (rw c.unwrap_or-end.ensures g)) ∙ ap (λ (x : List Entry). record_all 8 0 x f) (sym (map_first a.n a.logged.now))

@@ -4,5 +4,5 @@ use Rattle.leaves.proofs.nyotmelang_clog_open.Goals as goal
 
 pub returns : goal.returns
 returns c =
-    let k = c.open-a in
+    let k = c.open in
     answer-left _ k.result _ _ _ k.ensures c.tell.ensures

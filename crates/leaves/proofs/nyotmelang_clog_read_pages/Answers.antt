@@ -4,5 +4,5 @@ use Rattle.leaves.proofs.nyotmelang_clog_read_pages.Goals as goal
 
 pub returns : goal.returns
 returns c =
-    let k = c.read_pages-a in
+    let k = c.read_pages in
     answer-left _ k.result _ _ _ k.ensures c.tell.ensures

@@ -4,5 +4,5 @@ use Rattle.leaves.proofs.nyotmelang_clog_reset.Goals as goal
 
 pub returns : goal.returns
 returns c =
-    let k = c.reset-a in
+    let k = c.reset in
     answer-left _ k.result _ _ _ k.ensures c.tell.ensures

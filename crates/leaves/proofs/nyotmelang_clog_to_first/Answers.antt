@@ -4,5 +4,5 @@ use Rattle.leaves.proofs.nyotmelang_clog_to_first.Goals as goal
 
 pub returns : goal.returns
 returns c =
-    let k = c.to_first-a in
+    let k = c.to_first in
     answer-left _ k.result _ _ _ k.ensures c.tell.ensures

@@ -4,5 +4,5 @@ use Rattle.leaves.proofs.nyotmelang_clog_to_second.Goals as goal
 
 pub returns : goal.returns
 returns c =
-    let k = c.to_second-a in
+    let k = c.to_second in
     answer-left _ k.result _ _ _ k.ensures c.tell.ensures

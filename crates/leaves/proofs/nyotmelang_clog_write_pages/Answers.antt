@@ -4,5 +4,5 @@ use Rattle.leaves.proofs.nyotmelang_clog_write_pages.Goals as goal
 
 pub returns : goal.returns
 returns c =
-    let k = c.write_pages-a in
+    let k = c.write_pages in
     answer-left _ k.result _ _ _ k.ensures c.tell.ensures

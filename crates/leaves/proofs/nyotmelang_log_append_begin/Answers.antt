@@ -4,5 +4,5 @@ use Rattle.leaves.proofs.nyotmelang_log_append_begin.Goals as goal
 
 pub returns : goal.returns
 returns c =
-    let k = c.append_begin-a in
+    let k = c.append_begin in
     answer-left _ k.result _ _ _ k.ensures c.tell.ensures

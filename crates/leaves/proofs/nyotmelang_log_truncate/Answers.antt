@@ -4,5 +4,5 @@ use Rattle.leaves.proofs.nyotmelang_log_truncate.Goals as goal
 
 pub returns : goal.returns
 returns c =
-    let k = c.truncate-a in
+    let k = c.truncate in
     answer-left _ k.result _ _ _ k.ensures c.tell.ensures

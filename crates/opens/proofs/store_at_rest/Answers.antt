@@ -4,4 +4,4 @@ use Rattle.opens.proofs.store_at_rest.Goals as goal
 
 pub returns : goal.returns
 unfolding store_at_rest
-returns c = rw (c.no_frames-frames.ensures, c.no_pages-touched.ensures)
+returns c = rw (c.no_frames.ensures, c.no_pages.ensures)

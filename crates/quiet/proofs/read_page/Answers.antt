@@ -1,14 +1,14 @@
 -- `quiet::read_page` meets its contract: refused with the old store and zeros, or the page's frame is filled, unless it was there, and copied out. Assumes nothing.
+use mathlib.Core.Path.{refl}
 use Rattle.quiet.proofs.Pages.{read-refused, read_out}
 use Rattle.quiet.proofs.read_page.Goals as goal
 
-pub returns-then-seat-ne-ACCEPTED : goal.returns-then-seat-ne-ACCEPTED
-returns-then-seat-ne-ACCEPTED c =
+pub returns-in_err-seat : goal.returns-in_err-seat
+returns-in_err-seat c =
     let a = c.args in
-    read-refused 4096 a.page a.s a.log.now a.db.now a.clog.now a.frames.now c.seat_page-seat.result c.seat_page-seat.ensures c.if-seat-ne-ACCEPTED.true
+    read-refused 4096 a.page a.s a.log.now a.db.now a.clog.now a.frames.now _ c.in_err-seat.field-0.0 c.from_residual.ensures c.in_err-seat.ensures
 
 pub returns : goal.returns
 returns c =
     let a = c.args in
-    read_out 4096 a.page a.s a.log.now a.db.now a.clog.now a.frames.now c.seat_page-seat.result c.seat_page-seat.ensures c.if-seat-ne-ACCEPTED.false c.fill.new.frames
-    c.frame_of-bytes.result c.fill.ensures c.frame_of-bytes.ensures
+    read_out 4096 a.page a.s a.log.now a.db.now a.clog.now a.frames.now _ c.in_ok-seat.ensures refl c.fill.new.frames c.frame_of-bytes.result c.fill.ensures c.frame_of-bytes.ensures

@@ -1,8 +1,9 @@
 -- `ready::nothing` meets its contract. Assumes nothing.
-use Rattle.ready.proofs.Prepared.{idle-out}
+use mathlib.Core.Path.{ap, ◌∙◌}
+use Rattle.stores.specs.declared.Plan.{Plan}
+use Rattle.ready.specs.Ready.{plain, idle}
 use Rattle.ready.proofs.nothing.Goals as goal
 
 pub returns : goal.returns
-returns c =
-    let a = c.args in
-    idle-out a.number a.s c.no_plan.result c.none.result c.no_plan.ensures c.none.ensures
+unfolding plain idle
+returns c = c.plain_call.ensures ∙ ap (λ (p : Plan). plain p c.args.s) c.no_plan.ensures

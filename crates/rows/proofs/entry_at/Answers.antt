@@ -13,6 +13,3 @@ returns-then-i-ge-LIMIT c =
     let a = c.args in
     let len : length a.rows.now ≡ 256 = search rules in
     rw (get_or-eq_default a.rows.now [] {n = a.i} (omega arith))
-
-pub returns : goal.returns
-returns c = rw c.status_in-status.ensures

@@ -1,16 +1,10 @@
--- `scan::hold` meets its contract: one law for each way out. Assumes nothing.
-use Rattle.scan.proofs.Held.{hold-shut, hold-full, hold-set}
+-- `scan::hold` meets its contract: what was refused stays so, and the table says whether it has room. Assumes nothing.
+use Rattle.fields.proofs.AnswerLaws.{handed-on}
+use Rattle.scan.proofs.Held.{hold-shut, hold-set}
 use Rattle.scan.proofs.hold.Goals as goal
 
-pub returns-then-h-ne-ACCEPTED : goal.returns-then-h-ne-ACCEPTED
-returns-then-h-ne-ACCEPTED c = hold-shut 256 c.args.h _ c.if-h-ne-ACCEPTED.true
-
-pub returns-then-set-ne-ACCEPTED : goal.returns-then-set-ne-ACCEPTED
-returns-then-set-ne-ACCEPTED c =
-    let w = c.with_status-set in
-    rw c.empty.ensures (hold-full 256 c.args.h _ c.if-h-ne-ACCEPTED.false w.result w.ensures c.if-set-ne-ACCEPTED.true)
+pub returns-in_err-h : goal.returns-in_err-h
+returns-in_err-h c = rw (handed-on _ _ c.from_residual.ensures) (hold-shut _ c.args.h _ c.in_err-h.was)
 
 pub returns : goal.returns
-returns c =
-    let w = c.with_status-set in
-    hold-set 256 c.args.h _ c.if-h-ne-ACCEPTED.false w.result w.ensures c.if-set-ne-ACCEPTED.false
+returns c = rw c.in_ok-h.was (hold-set _ _ _ c.with_status.ensures)

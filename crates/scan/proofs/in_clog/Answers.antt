@@ -25,6 +25,5 @@ pub returns : goal.returns
 unfolding clog_magic valid_clog
 returns c =
     let a = c.args in
-    let l = c.read-l in
     let v = sym c.begins.ensures ∙ not-false c.begins.result c.if-not-begins.false-raw in
-    in-read (file_of a.clog.now a.len) c.requires v l.result c.number_of.result l.ensures c.number_of.ensures
+    in-read (file_of a.clog.now a.len) c.requires v a.len c.read.result c.read.ensures

@@ -3,7 +3,7 @@
 use mathlib.Core.Path.{sym, ◌∙◌}
 use native.Mathlib.Omega.{arith}
 use Rattle.fields.specs.Files.{file_of}
-use Rattle.scan.specs.Scans.{scanned}
+use Rattle.scan.specs.Scans.{scanned_of, scanned}
 use Rattle.scan.proofs.Turns.{onto-start, start-within, ahead, moved, scan-done}
 use Rattle.scan.proofs.scan.Goals as goal
 
@@ -35,7 +35,7 @@ loop-at-preserved c =
     let u = sym c.is_unfit.ensures ∙ c.if-is_unfit.false in
     let r = c.read_record-r in
     let m = ahead 4096 a.log.now a.len u c.loop-at.at r.result (omega arith) r.ensures in
-    let k = moved 4096 a.log.now a.len u c.loop-at.at r.result (omega arith) r.ensures a.db a.clog c.loop-at.s in
+    let k = moved 4096 a.log.now a.len u c.loop-at.at r.result (omega arith) r.ensures a.db a.clog (scanned_of c.loop-at.s) in
     rw (c.next_place-at.ensures, c.on_read-s.ensures) (m.within, k ∙ c.loop-at.invariant.1)
 
 pub returns : goal.returns
@@ -43,4 +43,4 @@ returns c =
     let l = c.loop-at in
     let a = c.args in
     let u = sym c.is_unfit.ensures ∙ c.if-is_unfit.false in
-    scan-done 4096 a.log.now a.len u a.db a.clog l.at l.s (omega arith) l.invariant.1
+    scan-done 4096 a.log.now a.len u a.db a.clog l.at (scanned_of l.s) (omega arith) l.invariant.1

@@ -5,12 +5,12 @@ use Prim.Native.Nat.{◌-◌, ◌≤◌}
 use lib.ListN.{take, drop}
 use Rattle.fields.specs.Files.{file_of}
 use Rattle.wal.specs.Records.{parse}
-use Rattle.scan.specs.Scans.{found}
+use Rattle.scan.specs.Scans.{scanned_of, found}
 use Rattle.scan.proofs.Turns.{onto}
 use Rattle.scan.proofs.scan.Given as goal
 
 abbrev pub invariant-loop-at : goal.invariant-loop-at
-invariant-loop-at l = (l.at ≤ l.len) × (onto 4096 l.db l.clog l.s (parse 4096 l.at (drop l.at (take l.len l.log))) ≡ found 4096 l.db l.clog (file_of l.log l.len))
+invariant-loop-at l = (l.at ≤ l.len) × (onto 4096 l.db l.clog (scanned_of l.s) (parse 4096 l.at (drop l.at (take l.len l.log))) ≡ found 4096 l.db l.clog (file_of l.log l.len))
 
 abbrev pub decreases-loop-at : goal.decreases-loop-at
 decreases-loop-at l = l.len - l.at

@@ -1,40 +1,30 @@
 -- `seats::find` meets its contract. The loop's invariant: what was passed does not hold the page, so that it stands in what is left or nowhere.
--- The measure is how many are left. Assumes nothing.
-use Rattle.frames.proofs.Turns.{in-here, in_on, in_end, slot-here, slot-on, found_at, found_none}
-use mathlib.Core.Path.{◌≡◌, refl, sym, ◌∙◌}
-use native.Mathlib.Nat.{zero-add}
+-- Assumes nothing.
+use mathlib.Core.Path.{◌≡◌, sym, ◌∙◌}
 use native.Mathlib.Omega.{arith}
 use borrow.Author.Rules.{rules}
-use lib.ListN.{length, take}
+use lib.ListN.{length}
+use Rattle.frames.proofs.Turns.{in-past, found-here, found-on, found_at, found_none}
+use Rattle.frames.proofs.Values.{held-list}
 use Rattle.seats.proofs.find.Goals as goal
 
-pub loop-i-init : goal.loop-i-init
-loop-i-init c = (search rules, refl, sym (zero-add _))
-
-pub returns-then-resident-i : goal.returns-then-resident-i
-returns-then-resident-i c =
-    let l = c.loop-i in
+pub returns-then-x-page : goal.returns-then-x-page
+returns-then-x-page c =
+    let l = c.loop-slot in
     let a = c.args in
-    let r = a.resident.now in
-    let len : length r ≡ 64 = search rules in
-    let h = in-here r a.n l.i a.page c.if-resident-i.true (omega arith) (omega arith) in
-    let s = slot-here r a.n l.i a.page c.if-resident-i.true (omega arith) (omega arith) in
-    sym (found_at a.page (take a.n r) l.i (l.invariant.1 ∙ h) (omega (arith, l.invariant.2)))
+    let len : length a.resident.now ≡ 64 = search rules in
+    let h = found-here _ l.slot a.page c.if-x-page.true c.loop-slot-test.true in
+    rw (held-list a.resident.now a.n 64 c.held-m.result len c.held-m.ensures) (sym (found_at a.page _ l.slot (l.invariant.0 ∙ h.0) (omega (arith, l.invariant.1, h.1))))
 
-pub loop-i-preserved : goal.loop-i-preserved
-loop-i-preserved c =
-    let l = c.loop-i in
-    let a = c.args in
-    let r = a.resident.now in
-    let len : length r ≡ 64 = search rules in
-    let h = in_on r a.n l.i a.page c.if-resident-i.false (omega arith) (omega arith) in
-    let s = slot-on r a.n l.i a.page c.if-resident-i.false (omega arith) (omega arith) in
-    (omega arith, l.invariant.1 ∙ h, omega (arith, l.invariant.2))
+pub loop-slot-preserved : goal.loop-slot-preserved
+loop-slot-preserved c =
+    let l = c.loop-slot in
+    let h = found-on _ l.slot c.args.page c.if-x-page.false c.loop-slot-test.true in
+    (l.invariant.0 ∙ h.0, omega (arith, l.invariant.1, h.1))
 
 pub returns : goal.returns
 returns c =
-    let l = c.loop-i in
+    let l = c.loop-slot in
     let a = c.args in
-    let r = a.resident.now in
-    let len : length r ≡ 64 = search rules in
-    sym (found_none a.page (take a.n r) (l.invariant.1 ∙ in_end r a.n l.i a.page (omega arith)))
+    let len : length a.resident.now ≡ 64 = search rules in
+    rw (held-list a.resident.now a.n 64 c.held-m.result len c.held-m.ensures) (sym (found_none a.page _ (l.invariant.0 ∙ in-past _ l.slot a.page c.loop-slot-test.false)))

@@ -1,31 +1,21 @@
--- `seats::place` meets its contract. The loop's invariant: the place is what was passed and the place in what is left. The measure is how many are left.
--- Assumes nothing.
-use Rattle.sorted.proofs.Laws.{place-stop, place-on, place_end}
-use Rattle.frames.specs.Pages.{number}
-use mathlib.Core.Path.{◌≡◌, sym}
-use native.Mathlib.Nat.{zero-add}
+-- `seats::place` meets its contract. The loop's invariant: the place is what was passed and the place in what is left. Assumes nothing.
 use native.Mathlib.Omega.{arith}
-use borrow.Author.Rules.{rules}
-use lib.ListN.{length}
+use borrow.Author.Tests.{lt-ltb, le-ltb}
+use Rattle.sorted.proofs.Laws.{place-at, place-past}
+use Rattle.frames.specs.Pages.{number}
 use Rattle.seats.proofs.place.Goals as goal
 
-pub loop-i-init : goal.loop-i-init
-loop-i-init c = (search rules, sym (zero-add _))
-
-pub returns-then-page-touched : goal.returns-then-page-touched
-returns-then-page-touched c =
+pub returns-then-page-x-clause-is : goal.returns-then-page-x-clause-is
+returns-then-page-x-clause-is c =
     let a = c.args in
-    let len : length a.touched.now ≡ 64 = search rules in
-    omega (arith, place-stop number 0 a.page a.touched.now a.n c.loop-i.i c.if-page-touched.true (omega arith) (omega arith))
+    omega (arith, c.loop-i.invariant, rw (le-ltb _ _ c.if-page-x.true) at (place-at number 0 a.page a.touched.now c.loop-i.i c.loop-i-test.true))
 
 pub loop-i-preserved : goal.loop-i-preserved
 loop-i-preserved c =
     let a = c.args in
-    let len : length a.touched.now ≡ 64 = search rules in
-    omega (arith, place-on number 0 a.page a.touched.now a.n c.loop-i.i c.if-page-touched.false (omega arith) (omega arith))
+    omega (arith, c.loop-i.invariant, rw (lt-ltb _ _ c.if-page-x.false) at (place-at number 0 a.page a.touched.now c.loop-i.i c.loop-i-test.true))
 
-pub returns : goal.returns
-returns c =
+pub returns-clause-is : goal.returns-clause-is
+returns-clause-is c =
     let a = c.args in
-    let len : length a.touched.now ≡ 64 = search rules in
-    omega (arith, place_end number 0 a.page a.touched.now a.n c.loop-i.i (omega arith))
+    omega (arith, c.loop-i.invariant, place-past number 0 a.page a.touched.now c.loop-i.i c.loop-i-test.false)

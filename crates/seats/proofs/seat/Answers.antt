@@ -13,13 +13,13 @@ returns-then-is_in c =
     let len : length a.resident.now ≡ 64 = search rules in
     seat-there a.resident.now a.n h.result a.size a.page len h.ensures i.result i.ensures c.if-is_in.true
 
-pub returns-then-most-m : goal.returns-then-most-m
-returns-then-most-m c =
+pub returns-then-frame_count-m : goal.returns-then-frame_count-m
+returns-then-frame_count-m c =
     let i = c.is_in in
     let h = c.held-m in
     let a = c.args in
     let len : length a.resident.now ≡ 64 = search rules in
-    seat-none a.resident.now a.n h.result a.size a.page len h.ensures i.result i.ensures c.frame_count-most.result c.frame_count-most.ensures c.if-is_in.false c.if-most-m.true
+    (seat-none a.resident.now a.n h.result a.size a.page len h.ensures i.result i.ensures c.frame_count.result c.frame_count.ensures c.if-is_in.false c.if-frame_count-m.true)
 
 pub bounds-resident-m : goal.bounds-resident-m
 bounds-resident-m c =
@@ -27,7 +27,7 @@ bounds-resident-m c =
     let h = c.held-m in
     let a = c.args in
     let len : length a.resident.now ≡ 64 = search rules in
-    seat-room a.resident.now a.n h.result a.size a.page len h.ensures i.result i.ensures c.frame_count-most.result c.frame_count-most.ensures c.if-is_in.false c.if-most-m.false
+    seat-room a.resident.now a.n h.result a.size a.page len h.ensures i.result i.ensures c.frame_count.result c.frame_count.ensures c.if-is_in.false c.if-frame_count-m.false
 
 pub returns : goal.returns
 returns c =
@@ -35,4 +35,4 @@ returns c =
     let h = c.held-m in
     let a = c.args in
     let len : length a.resident.now ≡ 64 = search rules in
-    seat-next a.resident.now a.n h.result a.size a.page len h.ensures i.result i.ensures c.frame_count-most.result c.frame_count-most.ensures c.if-is_in.false c.if-most-m.false
+    seat-next a.resident.now a.n h.result a.size a.page len h.ensures i.result i.ensures c.frame_count.result c.frame_count.ensures c.if-is_in.false c.if-frame_count-m.false

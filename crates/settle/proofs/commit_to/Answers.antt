@@ -1,13 +1,16 @@
--- `settle::commit_to` meets its contract: made ready, and cut. Assumes nothing.
-use mathlib.Core.Path.{ap, ◌∙◌}
+-- `settle::commit_to` meets its contract: refused, or made ready and cut. Assumes nothing.
 use Rattle.world.specs.Calls.{Commit}
-use Rattle.ready.specs.Ready.{Prepared, cut_at}
-use Rattle.ready.proofs.Prepared.{ready-cut}
+use Rattle.fields.proofs.AnswerLaws.{handed-on}
+use Rattle.ready.proofs.Prepared.{refused-cut, accepted-cut}
 use Rattle.settle.proofs.commit_to.Goals as goal
+
+pub returns-in_err-r : goal.returns-in_err-r
+returns-in_err-r c =
+    let a = c.args in
+    refused-cut 4096 Commit a.s a.log.now a.db.now a.clog.now a.frames.now c.in_err-r.field-0.0 c.in_err-r.ensures a.k c.from_residual.result (handed-on _ _ c.from_residual.ensures)
 
 pub returns : goal.returns
 returns c =
     let a = c.args in
-    c.cut_at.ensures
-    ∙ ap (λ (p : Prepared). cut_at 4096 a.k p a.log.now a.db.now a.clog.now) c.ready_commit-r.ensures
-    ∙ ready-cut 4096 Commit a.s a.log.now a.db.now a.clog.now a.frames.now a.k
+    let k = c.cut_at in
+    accepted-cut 4096 Commit a.s a.log.now a.db.now a.clog.now a.frames.now c.in_ok-r.r c.in_ok-r.ensures a.k k.result k.new.log k.new.db k.new.clog k.ensures

@@ -1,23 +1,19 @@
 -- `settle::raised` meets its contract: after turn i the count is past the first i pages. Assumes nothing.
-use mathlib.Core.Path.{◌≡◌, ap, ◌∙◌}
-use Prim.Native.Nat.{ℕ}
+use mathlib.Core.Path.{ap, ◌∙◌}
+use Prim.Native.Nat.{ℕ, ◌<◌}
 use native.Mathlib.Omega.{arith}
-use Rattle.settle.specs.Inside.{raised_to}
+use lib.ListN.{length-take}
+use Rattle.std.proofs.lemmas.List.{get_or-take}
+use Rattle.settle.specs.Inside.{past}
 use Rattle.settle.proofs.GivenBack.{raised-start, raised-next}
 use Rattle.settle.proofs.raised.Goals as goal
 
-pub loop-i-init : goal.loop-i-init
-loop-i-init c = let a = c.args in (omega arith, raised-start a.x a.pages)
+pub loop-page-init : goal.loop-page-init
+loop-page-init c = raised-start c.args.x c.args.pages
 
-pub loop-i-preserved : goal.loop-i-preserved
-loop-i-preserved c =
-    let l = c.loop-i in
-    let a = c.args in
-    (omega arith, raised-next a.x l.i a.pages l.n c.past_page-n.result l.invariant.1 c.past_page-n.ensures)
-
-pub returns : goal.returns
-returns c =
-    let l = c.loop-i in
-    let a = c.args in
-    let e : l.i ≡ c.smaller-k.result = omega arith in
-    l.invariant.1 ∙ ap (λ (j : ℕ). raised_to a.x j a.pages) (e ∙ c.smaller-k.ensures)
+pub loop-page-preserved : goal.loop-page-preserved
+loop-page-preserved c =
+    let l = c.loop-page in
+    let x = c.args.x in
+    let h : c.loop-page.page-index < c.min-k.result = omega (arith, length-take {A = ℕ}) in
+    raised-next x l.page-index c.args.pages l.n c.past_page-n.result l.invariant (c.past_page-n.ensures ∙ ap (λ (p : ℕ). past p l.n) (get_or-take c.min-k.result x.pages l.page-index 0 h))

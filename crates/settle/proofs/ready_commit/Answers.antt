@@ -1,28 +1,35 @@
 -- `settle::ready_commit` meets its contract: refused by 1 or 14, nothing to do, or sealed. Assumes nothing.
 use lib.Dec.{lit≤}
-use mathlib.Core.Path.{sym, ◌∙◌}
-use Rattle.sorted.proofs.Laws.{length-of-mapped}
-use Rattle.world.specs.Calls.{Commit}
-use Rattle.ready.proofs.Prepared.{ready-front}
-use Rattle.settle.proofs.Committed.{commit-none, commit-out}
+use mathlib.Core.Path.{sym, ap}
 use borrow.Author.Rules.{rules}
+use Rattle.fields.proofs.AnswerLaws.{handed-on}
+use Rattle.sorted.proofs.Laws.{length-of-mapped}
+use Rattle.table.specs.Entries.{inserted_of}
+use Rattle.world.specs.Calls.{Commit}
+use Rattle.form.specs.declared.Store.{Store}
+use Rattle.ready.specs.Ready.{ready_of, accepted}
+use Rattle.ready.proofs.Prepared.{no-zero, ready-front}
+use Rattle.settle.specs.Inside.{with_table, ended_store}
+use Rattle.settle.proofs.Committed.{commit-none, commit-out}
 use Rattle.settle.proofs.ready_commit.Goals as goal
 
-pub returns-then-no-ne-ACCEPTED : goal.returns-then-no-ne-ACCEPTED
-returns-then-no-ne-ACCEPTED c =
+pub returns-in_err-check_front : goal.returns-in_err-check_front
+returns-in_err-check_front c =
     let a = c.args in
-    let k = c.front_no-no in
-    ready-front 4096 Commit a.s a.log.now a.db.now a.clog.now a.frames.now c.nothing.result k.result c.nothing.ensures k.ensures c.if-no-ne-ACCEPTED.true
+    let e = c.in_err-check_front in
+    ready-front 4096 Commit a.s a.log.now a.db.now a.clog.now a.frames.now _ _ (ap (ready_of a.s) (handed-on _ _ c.from_residual.ensures)) e.ensures (no-zero e.field-0.0)
 
 pub returns-in_default : goal.returns-in_default
 returns-in_default c =
     let a = c.args in
-    commit-none 4096 a.s a.log.now a.db.now a.clog.now a.frames.now (sym c.front_no-no.ensures ∙ c.if-no-ne-ACCEPTED.false) (record { entries = search (rules, length-of-mapped); pages = search rules; touched = search rules }) c.nothing-in_default.result c.in_default.is c.nothing-in_default.ensures
+    commit-none 4096 a.s a.log.now a.db.now a.clog.now a.frames.now (sym c.in_ok-check_front.ensures) (record { entries = search (rules, length-of-mapped); pages = search rules; touched = search rules }) (accepted c.nothing.result) c.in_default.is c.nothing.ensures
 
 pub returns : goal.returns
+unfolding ended_store
 returns c =
     let a = c.args in
-    commit-out 4096 a.s a.log.now a.db.now a.clog.now a.frames.now (sym c.front_no-no.ensures ∙ c.if-no-ne-ACCEPTED.false) (record { entries = search (rules, length-of-mapped); pages = search rules; touched = search rules }) c.in-Installed.id c.in-Installed.is c.with_status-set.result
-    c.with_status-set.ensures c.commit_plan-plan.result c.counters_of-m.result c.next_time-after.result c.none-back.result c.with_end-u.result
-    c.seal.result (lit≤ tt) c.commit_plan-plan.ensures c.counters_of-m.ensures c.next_time-after.ensures c.none-back.ensures c.with_end-u.ensures
-    c.seal.ensures
+    let t = inserted_of a.s.table c.with_status-table.result in
+    commit-out 4096 a.s a.log.now a.db.now a.clog.now a.frames.now (sym c.in_ok-check_front.ensures) (record { entries = search (rules, length-of-mapped); pages = search rules; touched = search rules }) c.in-Installed.id c.in-Installed.is t
+    c.with_status-table.ensures c.commit_plan-plan.result c.counters_of.result c.next_time.result c.none-back.result (with_table c.with_end-u.result t.table)
+    (ready_of a.s c.seal.result) (lit≤ tt) c.commit_plan-plan.ensures c.counters_of.ensures c.next_time.ensures c.none-back.ensures
+    (ap (λ (u : Store). with_table u t.table) c.with_end-u.ensures) c.seal.ensures

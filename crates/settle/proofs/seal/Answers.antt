@@ -1,25 +1,46 @@
 -- `settle::seal` meets its contract: refused by 4, 5 or 6, by the table's number, by 8, or made ready. Assumes nothing.
+use mathlib.Core.Path.{refl, ap}
+use Rattle.std.specs.Prelude.{Ok, Err}
+use Rattle.fields.specs.Refusals.{number_of}
+use Rattle.fields.proofs.AnswerLaws.{handed-on}
+use Rattle.table.specs.Entries.{inserted_of}
+use Rattle.frames.specs.Pages.{seated_of}
+use Rattle.ready.specs.Ready.{ready_of, accepted}
+use Rattle.ready.proofs.Prepared.{no-zero}
+use Rattle.settle.specs.Inside.{with_table}
 use Rattle.settle.proofs.Sealed.{seal-short, seal-table, seal-seat, seal-out}
 use Rattle.settle.proofs.seal.Goals as goal
 
-pub returns-then-short-ne-ACCEPTED : goal.returns-then-short-ne-ACCEPTED
-returns-then-short-ne-ACCEPTED c =
+pub returns-in_err-check_room : goal.returns-in_err-check_room
+returns-in_err-check_room c =
     let a = c.args in
-    seal-short 4096 a.s a.u a.full a.plan a.back a.log.now a.db.now a.clog.now a.frames.now c.nothing.result c.room_no-short.result c.room_no-short.ensures c.nothing.ensures c.if-short-ne-ACCEPTED.true
+    let e = c.in_err-check_room in
+    let t = inserted_of a.s.table a.table in
+    seal-short 4096 a.s (with_table a.u t.table) t.number a.plan a.back a.log.now a.db.now a.clog.now a.frames.now _ (number_of e.field-0.0) e.ensures
+    (ap (ready_of a.s) (handed-on _ _ c.from_residual.ensures)) (no-zero e.field-0.0)
 
-pub returns-then-full-ne-ACCEPTED : goal.returns-then-full-ne-ACCEPTED
-returns-then-full-ne-ACCEPTED c =
+pub returns-in_err-table : goal.returns-in_err-table
+returns-in_err-table c =
     let a = c.args in
-    seal-table 4096 a.s a.u a.full a.plan a.back a.log.now a.db.now a.clog.now a.frames.now c.nothing-then-full-ne-ACCEPTED.result c.room_no-short.result c.room_no-short.ensures c.if-short-ne-ACCEPTED.false c.nothing-then-full-ne-ACCEPTED.ensures c.if-full-ne-ACCEPTED.true
+    let e = c.in_err-table in
+    let t = inserted_of a.s.table (Err e.field-0.0) in
+    rw e.was
+    (seal-table 4096 a.s (with_table a.u t.table) t.number a.plan a.back a.log.now a.db.now a.clog.now a.frames.now _ 0 c.in_ok-check_room.ensures refl
+    (ap (ready_of a.s) (handed-on _ _ c.from_residual-in_err-table.ensures)) (no-zero e.field-0.0))
 
-pub returns-then-seat-ne-ACCEPTED : goal.returns-then-seat-ne-ACCEPTED
-returns-then-seat-ne-ACCEPTED c =
+pub returns-in_err-more : goal.returns-in_err-more
+returns-in_err-more c =
     let a = c.args in
-    seal-seat 4096 a.s a.u a.full a.plan a.back a.log.now a.db.now a.clog.now a.frames.now c.nothing-then-seat-ne-ACCEPTED.result c.room_no-short.result c.room_no-short.ensures c.if-short-ne-ACCEPTED.false c.if-full-ne-ACCEPTED.false c.seat-seat.result c.seat-seat.ensures
-    c.nothing-then-seat-ne-ACCEPTED.ensures c.if-seat-ne-ACCEPTED.true
+    let e = c.in_err-more in
+    let t = inserted_of a.s.table (Ok c.in_ok-table.table) in
+    rw c.in_ok-table.was
+    (seal-seat 4096 a.s (with_table a.u t.table) t.number a.plan a.back a.log.now a.db.now a.clog.now a.frames.now _ 0 c.in_ok-check_room.ensures refl refl
+    (seated_of a.s.frames (Err e.field-0.0)) e.ensures (ap (ready_of a.s) (handed-on _ _ c.from_residual-in_err-more.ensures)) (no-zero e.field-0.0))
 
 pub returns : goal.returns
 returns c =
     let a = c.args in
-    seal-out 4096 a.s a.u a.full a.plan a.back a.log.now a.db.now a.clog.now a.frames.now c.meta_call.result c.room_no-short.result c.room_no-short.ensures c.if-short-ne-ACCEPTED.false c.if-full-ne-ACCEPTED.false c.seat-seat.result c.seat-seat.ensures
-    c.slot_for-slot.result c.at_least_one-pages.result c.if-seat-ne-ACCEPTED.false c.slot_for-slot.ensures c.at_least_one-pages.ensures c.meta_call.ensures
+    let t = inserted_of a.s.table (Ok c.in_ok-table.table) in
+    rw c.in_ok-table.was
+    (seal-out 4096 a.s (with_table a.u t.table) t.number a.plan a.back a.log.now a.db.now a.clog.now a.frames.now (accepted c.meta_call.result) 0 c.in_ok-check_room.ensures refl refl
+    (seated_of a.s.frames (Ok c.in_ok-more.more)) c.in_ok-more.ensures c.slot_for-slot.result c.max.result refl c.slot_for-slot.ensures c.max.ensures c.meta_call.ensures)

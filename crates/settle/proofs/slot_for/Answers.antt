@@ -1,13 +1,7 @@
 -- `settle::slot_for` meets its contract: the page is found, or it is not resident. Assumes nothing.
-use Rattle.settle.proofs.Sealed.{slot_at, slot_next}
+use mathlib.Core.Path.{◌∙◌}
+use Rattle.settle.proofs.Sealed.{slot-out}
 use Rattle.settle.proofs.slot_for.Goals as goal
 
-pub returns-in-At : goal.returns-in-At
-returns-in-At c =
-    let a = c.args in
-    slot_at a.page a.f c.find-place.result c.find-place.ensures c.in-At.slot c.in-At.is
-
-pub returns-in-Nowhere : goal.returns-in-Nowhere
-returns-in-Nowhere c =
-    let a = c.args in
-    slot_next a.page a.f c.find-place.result c.find-place.ensures c.in-Nowhere.is
+pub returns : goal.returns
+returns c = c.unwrap_or.ensures ∙ slot-out c.args.page c.args.f c.find.result c.find.ensures

@@ -8,6 +8,6 @@ pub returns-then-base-ne0 : goal.returns-then-base-ne0
 unfolding bad_base
 returns-then-base-ne0 c = rw (ne_eqb (c.args.base % 4) 0 c.if-base-ne0.true)
 
-pub returns : goal.returns
+pub returns-else-base-ne0 : goal.returns-else-base-ne0
 unfolding bad_base
-returns c = rw (eq-eqb (c.args.base % 4) 0 c.if-base-ne0.false)
+returns-else-base-ne0 c = rw (eq-eqb (c.args.base % 4) 0 c.if-base-ne0.false)

@@ -1,24 +1,14 @@
--- `shrunk::is_misfit` meets its contract: each test that fails decides. Assumes nothing.
-use mathlib.Core.Path.{sym, ap, ◌∙◌}
-use native.Mathlib.Omega.{arith}
-use Rattle.shrunk.specs.Form.{base_of}
+-- `shrunk::is_misfit` meets its contract: each test adds to what the ones before it say. Assumes nothing.
+use Rattle.std.proofs.Common.{arith}
+use Rattle.std.proofs.lemmas.Bool.Decides.{nat_tests}
+use Rattle.shrunk.specs.Form.{base_of, misfits}
 use Rattle.shrunk.specs.Inside.{bad_base}
-use Rattle.shrunk.proofs.Ways.{misfit-short, misfit-states, misfit-version, misfit-base}
 use Rattle.shrunk.proofs.is_misfit.Goals as goal
 
-pub returns-then-s-lt-SECOND_HEADER : goal.returns-then-s-lt-SECOND_HEADER
-returns-then-s-lt-SECOND_HEADER c = sym (misfit-short c.args.s.now c.if-s-lt-SECOND_HEADER.true)
-
-pub returns-then-stated-s : goal.returns-then-stated-s
-returns-then-stated-s c =
-    sym (misfit-states c.args.s.now (omega arith) (λ e. c.if-stated-s.true (omega (arith, c.get_big_u32-stated.ensures, e))))
-
 pub returns-then-s-ne-VERSION : goal.returns-then-s-ne-VERSION
-returns-then-s-ne-VERSION c =
-    sym (misfit-version c.args.s.now (omega arith) (omega (arith, c.get_big_u32-stated.ensures, c.if-stated-s.false)) c.if-s-ne-VERSION.true)
+unfolding misfits base_of
+returns-then-s-ne-VERSION c = grind (arith, nat_tests)
 
-pub returns : goal.returns
-unfolding base_of
-returns c =
-    c.bad_base.ensures ∙ ap bad_base c.get_big_u64-base.ensures
-    ∙ sym (misfit-base c.args.s.now (omega arith) (omega (arith, c.get_big_u32-stated.ensures, c.if-stated-s.false)) c.if-s-ne-VERSION.false)
+pub returns-else-s-ne-VERSION : goal.returns-else-s-ne-VERSION
+unfolding misfits base_of bad_base
+returns-else-s-ne-VERSION c = grind (arith, nat_tests)

@@ -1,47 +1,42 @@
--- `shrunk::record` meets its contract: a law of proofs/Ways.antt for each way out; a record tells a length where it is accepted, and only there. Assumes nothing.
-use mathlib.Core.Path.{sym, ◌∙◌}
+-- `shrunk::record` meets its contract: a law of proofs/Ways.antt for each way out; a refusal of clog's is that of the call. Assumes nothing.
+use mathlib.Core.Path.{refl, sym}
 use native.Mathlib.Omega.{arith}
 use lib.Seq.{length-take-le}
 use Rattle.clog.specs.Slots.{code_of}
-use Rattle.shrunk.proofs.Ways.{form-means, recorded-no, refused-told, told-length, accepted-told}
+use Rattle.clog.proofs.Ways.{handed-on}
+use Rattle.shrunk.proofs.Ways.{form-means, recorded-no, record-refused, told-length, record-accepted}
 use Rattle.shrunk.proofs.record.Goals as goal
 
-pub returns-then-no-ne-ACCEPTED : goal.returns-then-no-ne-ACCEPTED
-returns-then-no-ne-ACCEPTED c =
-    let a = c.args in
-    recorded-no a.second.now a.len _ c.form_no-no.ensures c.if-no-ne-ACCEPTED.true a.id.0 (code_of a.status)
+pub returns-in_err-check_form : goal.returns-in_err-check_form
+returns-in_err-check_form c = rw (handed-on _ _ c.from_residual.ensures.1) (recorded-no c.args.second.now c.args.len _ c.in_err-check_form.ensures c.args.id.0 (code_of c.args.status))
 
 pub slice_bounds-base_in-end : goal.slice_bounds-base_in-end
 slice_bounds-base_in-end c =
-    (form-means _ _ c.form_no-no.ensures c.if-no-ne-ACCEPTED.false).1
+    (form-means _ _ c.in_ok-check_form.ensures refl).1
 
 pub slice_bounds-base_in-end-2 : goal.slice_bounds-base_in-end-2
 slice_bounds-base_in-end-2 c =
-    sym (length-take-le _ _ (form-means _ _ c.form_no-no.ensures c.if-no-ne-ACCEPTED.false).1)
+    sym (length-take-le _ _ (form-means _ _ c.in_ok-check_form.ensures refl).1)
 
 pub base_in-base-requires : goal.base_in-base-requires
 base_in-base-requires c =
-    (form-means _ _ c.form_no-no.ensures c.if-no-ne-ACCEPTED.false).2
+    (form-means _ _ c.in_ok-check_form.ensures refl).2
 
-pub returns-then-n-eq0 : goal.returns-then-n-eq0
-returns-then-n-eq0 c =
-    let a = c.args in
-    refused-told a.second.now a.len _ c.form_no-no.ensures c.if-no-ne-ACCEPTED.false a.id.0 (code_of a.status) c.base_in-base.result c.record_in-a.result c.record_in-a.new.clog c.base_in-base.ensures.0 c.record_in-a.ensures (sym c.length_of-n.ensures ∙ c.if-n-eq0.true)
+pub returns-in_err-n : goal.returns-in_err-n
+returns-in_err-n c =
+    rw (handed-on _ _ c.from_residual-in_err-n.ensures.1)
+    (record-refused c.args.second.now c.args.len c.in_ok-check_form.ensures c.args.id.0 (code_of c.args.status) c.base_in-base.result c.base_in-base.ensures.0 _ c.record_in.new.clog c.in_err-n.ensures)
 
 pub overflow_sub-n : goal.overflow_sub-n
 overflow_sub-n c =
-    let a = c.args in
-    let l = told-length a.second.now a.len _ c.form_no-no.ensures c.if-no-ne-ACCEPTED.false a.id.0 (code_of a.status) c.base_in-base.result c.record_in-a.result c.record_in-a.new.clog c.base_in-base.ensures.0 c.record_in-a.ensures (λ z. c.if-n-eq0.false (c.length_of-n.ensures ∙ z)) in
-    omega (arith, l.0, c.length_of-n.ensures)
+    let l = told-length c.args.second.now c.args.len c.in_ok-check_form.ensures c.args.id.0 (code_of c.args.status) c.base_in-base.result c.base_in-base.ensures.0 _ _ c.in_ok-n.ensures in
+    omega arith
 
 pub overflow_cast-n : goal.overflow_cast-n
 overflow_cast-n c =
-    let a = c.args in
-    let l = told-length a.second.now a.len _ c.form_no-no.ensures c.if-no-ne-ACCEPTED.false a.id.0 (code_of a.status) c.base_in-base.result c.record_in-a.result c.record_in-a.new.clog c.base_in-base.ensures.0 c.record_in-a.ensures (λ z. c.if-n-eq0.false (c.length_of-n.ensures ∙ z)) in
-    omega (arith, l.1, c.length_of-n.ensures)
+    let l = told-length c.args.second.now c.args.len c.in_ok-check_form.ensures c.args.id.0 (code_of c.args.status) c.base_in-base.result c.base_in-base.ensures.0 _ _ c.in_ok-n.ensures in
+    omega arith
 
 pub returns : goal.returns
 returns c =
-    let a = c.args in
-    let n = c.length_of-n.ensures in
-    accepted-told a.second.now a.len _ c.form_no-no.ensures c.if-no-ne-ACCEPTED.false a.id.0 (code_of a.status) c.base_in-base.result c.record_in-a.result c.record_in-a.new.clog c.base_in-base.ensures.0 c.record_in-a.ensures (λ z. c.if-n-eq0.false (n ∙ z)) _ (rw n at c.put_big_u32.ensures)
+    record-accepted c.args.second.now c.args.len c.in_ok-check_form.ensures c.args.id.0 (code_of c.args.status) c.base_in-base.result c.base_in-base.ensures.0 _ _ c.in_ok-n.ensures _ c.put_big_u32.ensures

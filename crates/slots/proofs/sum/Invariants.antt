@@ -1,10 +1,5 @@
--- `slots::sum` is safe and ends. Assumes nothing.
-use Prim.Native.Nat.{◌-◌, ◌≤◌, ◌<◌}
-use lib.ListN.{length}
+use Rattle.std.proofs.Common.{◌<◌}
 use Rattle.slots.proofs.sum.Given as goal
 
-abbrev pub invariant-loop-i : goal.invariant-loop-i
-invariant-loop-i l = (l.i ≤ length l.s) × (l.total < 65521)
-
-abbrev pub decreases-loop-i : goal.decreases-loop-i
-decreases-loop-i l = length l.s - l.i
+abbrev pub invariant-loop-byte : goal.invariant-loop-byte
+invariant-loop-byte l = l.total < 65521

@@ -4,21 +4,15 @@ use Rattle.lent.specs.Lent.{lent}
 use Rattle.still.proofs.Entries.{read_first, read_past, read_is}
 use Rattle.still.proofs.entry_at.Goals as goal
 
-pub returns-then-no-ne-ACCEPTED : goal.returns-then-no-ne-ACCEPTED
-returns-then-no-ne-ACCEPTED c =
+pub returns-in_err-check_front : goal.returns-in_err-check_front
+returns-in_err-check_front c =
     let a = c.args in
-    let k = c.front_no-no in
-    read_first 4096 (lent a.h a.rows.now a.resident.now a.touched.now) a.log.now a.db.now a.clog.now a.frames.now k.result k.ensures a.i c.if-no-ne-ACCEPTED.true
+    read_first 4096 (lent a.h a.rows.now a.resident.now a.touched.now) a.log.now a.db.now a.clog.now a.frames.now c.in_err-check_front.field-0.0 c.in_err-check_front.ensures a.i _ c.from_residual.ensures
 
 pub returns-then-h-i : goal.returns-then-h-i
-returns-then-h-i c =
-    let a = c.args in
-    let k = c.front_no-no in
-    read_past 4096 (lent a.h a.rows.now a.resident.now a.touched.now) a.log.now a.db.now a.clog.now a.frames.now k.result k.ensures c.if-no-ne-ACCEPTED.false (record { rows = search rules; resident = search rules; touched = search rules }) a.i c.if-h-i.true
+returns-then-h-i c = let a = c.args in read_past 4096 (lent a.h a.rows.now a.resident.now a.touched.now) a.log.now a.db.now a.clog.now a.frames.now c.in_ok-check_front.ensures (record { rows = search rules; resident = search rules; touched = search rules }) a.i c.if-h-i.true
 
 pub returns : goal.returns
 returns c =
     let a = c.args in
-    let k = c.front_no-no in
-    let e = c.entry_at-e in
-    read_is 4096 (lent a.h a.rows.now a.resident.now a.touched.now) a.log.now a.db.now a.clog.now a.frames.now k.result k.ensures c.if-no-ne-ACCEPTED.false (record { rows = search rules; resident = search rules; touched = search rules }) a.i e.result e.ensures c.if-h-i.false
+    read_is 4096 (lent a.h a.rows.now a.resident.now a.touched.now) a.log.now a.db.now a.clog.now a.frames.now c.in_ok-check_front.ensures (record { rows = search rules; resident = search rules; touched = search rules }) a.i c.entry_at.result c.entry_at.ensures c.if-h-i.false

@@ -31,7 +31,7 @@ returns-in-LogBegin c =
     let k = c.append_begin in
     let g = c.in-LogBegin in
     ap (λ (n : Lens). files_of n k.new.log c.args.db.now c.args.clog.now) c.lengths-in-LogBegin.ensures
-    ∙ log-done 4096 (files_of c.args.lens c.args.log.now c.args.db.now c.args.clog.now) (meaning 4096 c.args.frames.now c.args.step) c.requires (begin g.id.0) k.result c.length_of.result k.new.log (ap (meaning 4096 c.args.frames.now) g.is) refl k.ensures c.length_of.ensures
+    ∙ log-done 4096 (files_of c.args.lens c.args.log.now c.args.db.now c.args.clog.now) (meaning 4096 c.args.frames.now c.args.step) c.requires (begin g.id.0) k.result c.unwrap_or.result k.new.log (ap (meaning 4096 c.args.frames.now) g.is) refl k.ensures c.unwrap_or.ensures
 
 pub returns-in-LogCommit : goal.returns-in-LogCommit
 unfolding meaning
@@ -39,7 +39,7 @@ returns-in-LogCommit c =
     let k = c.append_commit in
     let g = c.in-LogCommit in
     ap (λ (n : Lens). files_of n k.new.log c.args.db.now c.args.clog.now) c.lengths-in-LogCommit.ensures
-    ∙ log-done 4096 (files_of c.args.lens c.args.log.now c.args.db.now c.args.clog.now) (meaning 4096 c.args.frames.now c.args.step) c.requires (commit g.id.0 g.time.0) k.result c.length_of-in-LogCommit.result k.new.log (ap (meaning 4096 c.args.frames.now) g.is) refl k.ensures c.length_of-in-LogCommit.ensures
+    ∙ log-done 4096 (files_of c.args.lens c.args.log.now c.args.db.now c.args.clog.now) (meaning 4096 c.args.frames.now c.args.step) c.requires (commit g.id.0 g.time.0) k.result c.unwrap_or-in-LogCommit.result k.new.log (ap (meaning 4096 c.args.frames.now) g.is) refl k.ensures c.unwrap_or-in-LogCommit.ensures
 
 pub returns-in-LogAbort : goal.returns-in-LogAbort
 unfolding meaning
@@ -47,7 +47,7 @@ returns-in-LogAbort c =
     let k = c.append_abort in
     let g = c.in-LogAbort in
     ap (λ (n : Lens). files_of n k.new.log c.args.db.now c.args.clog.now) c.lengths-in-LogAbort.ensures
-    ∙ log-done 4096 (files_of c.args.lens c.args.log.now c.args.db.now c.args.clog.now) (meaning 4096 c.args.frames.now c.args.step) c.requires (abort g.id.0) k.result c.length_of-in-LogAbort.result k.new.log (ap (meaning 4096 c.args.frames.now) g.is) refl k.ensures c.length_of-in-LogAbort.ensures
+    ∙ log-done 4096 (files_of c.args.lens c.args.log.now c.args.db.now c.args.clog.now) (meaning 4096 c.args.frames.now c.args.step) c.requires (abort g.id.0) k.result c.unwrap_or-in-LogAbort.result k.new.log (ap (meaning 4096 c.args.frames.now) g.is) refl k.ensures c.unwrap_or-in-LogAbort.ensures
 
 pub returns-in-LogCheckpoint : goal.returns-in-LogCheckpoint
 unfolding meaning
@@ -55,7 +55,7 @@ returns-in-LogCheckpoint c =
     let k = c.append_checkpoint in
     let g = c.in-LogCheckpoint in
     ap (λ (n : Lens). files_of n k.new.log c.args.db.now c.args.clog.now) c.lengths-in-LogCheckpoint.ensures
-    ∙ log-done 4096 (files_of c.args.lens c.args.log.now c.args.db.now c.args.clog.now) (meaning 4096 c.args.frames.now c.args.step) c.requires checkpoint k.result c.length_of-in-LogCheckpoint.result k.new.log (ap (meaning 4096 c.args.frames.now) g.is) refl k.ensures c.length_of-in-LogCheckpoint.ensures
+    ∙ log-done 4096 (files_of c.args.lens c.args.log.now c.args.db.now c.args.clog.now) (meaning 4096 c.args.frames.now c.args.step) c.requires checkpoint k.result c.unwrap_or-in-LogCheckpoint.result k.new.log (ap (meaning 4096 c.args.frames.now) g.is) refl k.ensures c.unwrap_or-in-LogCheckpoint.ensures
 
 pub returns-in-WritePage : goal.returns-in-WritePage
 unfolding meaning
@@ -80,7 +80,7 @@ returns-in-SetSlot c =
     let k = c.record in
     let g = c.in-SetSlot in
     ap (λ (n : Lens). files_of n c.args.log.now c.args.db.now k.new.clog) c.lengths-in-SetSlot.ensures
-    ∙ slot-done 4096 (files_of c.args.lens c.args.log.now c.args.db.now c.args.clog.now) (meaning 4096 c.args.frames.now c.args.step) c.requires g.id.0 g.status k.result c.length_of-in-SetSlot.result k.new.clog (ap (meaning 4096 c.args.frames.now) g.is) k.ensures c.length_of-in-SetSlot.ensures
+    ∙ slot-done 4096 (files_of c.args.lens c.args.log.now c.args.db.now c.args.clog.now) (meaning 4096 c.args.frames.now c.args.step) c.requires g.id.0 g.status k.result c.unwrap_or-in-SetSlot.result k.new.clog (ap (meaning 4096 c.args.frames.now) g.is) k.ensures c.unwrap_or-in-SetSlot.ensures
 
 pub returns-in-Compact : goal.returns-in-Compact
 unfolding meaning
@@ -88,11 +88,11 @@ returns-in-Compact c =
     let k = c.compact in
     let g = c.in-Compact in
     ap (λ (n : Lens). files_of n c.args.log.now c.args.db.now k.new.clog) c.lengths-in-Compact.ensures
-    ∙ compact-done 4096 (files_of c.args.lens c.args.log.now c.args.db.now c.args.clog.now) (meaning 4096 c.args.frames.now c.args.step) c.requires g.below.0 k.result c.length_of-in-Compact.result k.new.clog (ap (meaning 4096 c.args.frames.now) g.is) k.ensures c.length_of-in-Compact.ensures
+    ∙ compact-done 4096 (files_of c.args.lens c.args.log.now c.args.db.now c.args.clog.now) (meaning 4096 c.args.frames.now c.args.step) c.requires g.below.0 k.result c.unwrap_or-in-Compact.result k.new.clog (ap (meaning 4096 c.args.frames.now) g.is) k.ensures c.unwrap_or-in-Compact.ensures
 
 pub returns-in-Truncate : goal.returns-in-Truncate
 unfolding meaning
 returns-in-Truncate c =
     let k = c.truncate in
     ap (λ (n : Lens). files_of n k.new.log c.args.db.now c.args.clog.now) c.lengths-in-Truncate.ensures
-    ∙ truncate-done 4096 (files_of c.args.lens c.args.log.now c.args.db.now c.args.clog.now) (meaning 4096 c.args.frames.now c.args.step) c.requires k.result c.length_of-in-Truncate.result k.new.log (ap (meaning 4096 c.args.frames.now) c.in-Truncate.is) k.ensures c.length_of-in-Truncate.ensures
+    ∙ truncate-done 4096 (files_of c.args.lens c.args.log.now c.args.db.now c.args.clog.now) (meaning 4096 c.args.frames.now c.args.step) c.requires k.result c.unwrap_or-in-Truncate.result k.new.log (ap (meaning 4096 c.args.frames.now) c.in-Truncate.is) k.ensures c.unwrap_or-in-Truncate.ensures

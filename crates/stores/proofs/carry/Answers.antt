@@ -16,16 +16,15 @@ apply_step-at-requires c =
     let a = c.args in
     let l = c.loop-i in
     let t = c.step_at-s in
-    let here : c.loop-i.i < length (steps_of c.args.plan) = omega (arith, c.smaller-stop.ensures, c.count-all.ensures, c.loop-i-test.true) in
-    let asked : c.loop-i.i < c.args.k = omega (arith, c.smaller-stop.ensures, c.loop-i-test.true) in
+    let here : c.loop-i.i < length (steps_of c.args.plan) = omega arith in
     carry-room 4096 a.frames.now a.plan l.i a.k (files_of c.loop-i.at c.loop-i.log c.loop-i.db c.loop-i.clog) t.result here t.ensures l.invariant.3
 
 pub loop-i-preserved : goal.loop-i-preserved
 loop-i-preserved c =
     let k = c.apply_step-at in
     let t = c.step_at-s in
-    let here : c.loop-i.i < length (steps_of c.args.plan) = omega (arith, c.smaller-stop.ensures, c.count-all.ensures, c.loop-i-test.true) in
-    let asked : c.loop-i.i < c.args.k = omega (arith, c.smaller-stop.ensures, c.loop-i-test.true) in
+    let here : c.loop-i.i < length (steps_of c.args.plan) = omega arith in
+    let asked : c.loop-i.i < c.args.k = omega arith in
     let a = c.args in
     let l = c.loop-i in (
       k.auto.log ∙ l.invariant.0,
@@ -48,4 +47,4 @@ pub returns : goal.returns
 returns c =
     let l = c.loop-i in
     let a = c.args in
-    sym (carry-end 4096 a.frames.now a.plan l.i a.k (files_of c.loop-i.at c.loop-i.log c.loop-i.db c.loop-i.clog) (omega (arith, c.smaller-stop.ensures, c.count-all.ensures, c.loop-i-test.false))) ∙ l.invariant.4
+    sym (carry-end 4096 a.frames.now a.plan l.i a.k (files_of c.loop-i.at c.loop-i.log c.loop-i.db c.loop-i.clog) (omega arith)) ∙ l.invariant.4

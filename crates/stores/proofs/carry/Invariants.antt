@@ -14,6 +14,3 @@ invariant-loop-i l = (length l.log ≡ length l.initial.log)
     × (length l.clog ≡ length l.initial.clog)
     × (Enough 4096 (drop l.i (meant 4096 l.frames l.plan)) (files_of l.at l.log l.db l.clog))
     × (apply_all 4096 (take (l.k - l.i) (drop l.i (meant 4096 l.frames l.plan))) (files_of l.at l.log l.db l.clog) ≡ apply_all 4096 (take (l.k - l.from) (drop l.from (meant 4096 l.frames l.plan))) (files_of l.initial.at l.initial.log l.initial.db l.initial.clog))
-
-abbrev pub decreases-loop-i : goal.decreases-loop-i
-decreases-loop-i l = l.stop - l.i

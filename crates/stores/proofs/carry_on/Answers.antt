@@ -1,22 +1,30 @@
 -- `stores::carry_on` meets its contract: refused, or carried out. Assumes nothing.
-use mathlib.Core.Path.{sym, ◌∙◌}
-use Prim.Native.Nat.{◌-◌}
+use Rattle.std.proofs.Common.{◌-◌, drop, sym, ap, ◌∙◌, refl}
 use lib.Dec.{lit≤}
-use lib.ListN.{drop}
+use Rattle.fields.proofs.AnswerLaws.{handed-on}
 use Rattle.world.specs.World.{files_of}
 use Rattle.stores.specs.Plans.{meant}
+use Rattle.stores.specs.Room.{cut, cut_of}
 use Rattle.stores.proofs.RoomLaws.{number_is, accepted-enough, carried-refused, carried-done}
 use Rattle.stores.proofs.carry_on.Goals as goal
 
-pub returns-then-number-ne-ACCEPTED : goal.returns-then-number-ne-ACCEPTED
-returns-then-number-ne-ACCEPTED c =
-    carried-refused 4096 (drop c.args.from (meant 4096 c.args.frames.now c.args.plan)) (c.args.k - c.args.from) (files_of c.args.lens c.args.log.now c.args.db.now c.args.clog.now) c.number_for-number.result (c.number_for-number.ensures ∙ number_is 4096 (lit≤ tt) c.args.frames.now c.args.plan c.args.from (files_of c.args.lens c.args.log.now c.args.db.now c.args.clog.now)) c.if-number-ne-ACCEPTED.true
+pub returns-in_err-check_stores : goal.returns-in_err-check_stores
+returns-in_err-check_stores c =
+    let a = c.args in
+    let f = files_of a.lens a.log.now a.db.now a.clog.now in
+    let n = c.in_err-check_stores.ensures ∙ number_is 4096 (lit≤ tt) a.frames.now a.plan a.from (files_of a.lens a.log.now a.db.now a.clog.now) in
+    ap (λ r. cut_of (cut a.lens r) a.log.now a.db.now a.clog.now) (handed-on _ _ c.from_residual.ensures)
+    ∙ carried-refused 4096 (drop a.from (meant 4096 a.frames.now a.plan)) (a.k - a.from) (files_of a.lens a.log.now a.db.now a.clog.now) _ n c.in_err-check_stores.field-0.0 refl
 
-pub carry-at-requires : goal.carry-at-requires
-carry-at-requires c =
-    accepted-enough 4096 (drop c.args.from (meant 4096 c.args.frames.now c.args.plan)) (files_of c.args.lens c.args.log.now c.args.db.now c.args.clog.now) (sym (c.number_for-number.ensures ∙ number_is 4096 (lit≤ tt) c.args.frames.now c.args.plan c.args.from (files_of c.args.lens c.args.log.now c.args.db.now c.args.clog.now)) ∙ c.if-number-ne-ACCEPTED.false)
+pub carry-requires : goal.carry-requires
+carry-requires c =
+    let a = c.args in
+    let n = c.in_ok-check_stores.ensures ∙ number_is 4096 (lit≤ tt) a.frames.now a.plan a.from (files_of a.lens a.log.now a.db.now a.clog.now) in
+    accepted-enough 4096 (drop a.from (meant 4096 a.frames.now a.plan)) (files_of a.lens a.log.now a.db.now a.clog.now) (sym n)
 
 pub returns : goal.returns
 returns c =
-    let k = c.carry-at in
-    carried-done 4096 (drop c.args.from (meant 4096 c.args.frames.now c.args.plan)) (c.args.k - c.args.from) (files_of c.args.lens c.args.log.now c.args.db.now c.args.clog.now) c.number_for-number.result (c.number_for-number.ensures ∙ number_is 4096 (lit≤ tt) c.args.frames.now c.args.plan c.args.from (files_of c.args.lens c.args.log.now c.args.db.now c.args.clog.now)) (files_of k.result k.new.log k.new.db k.new.clog) c.if-number-ne-ACCEPTED.false k.ensures
+    let a = c.args in
+    let k = c.carry in
+    let n = c.in_ok-check_stores.ensures ∙ number_is 4096 (lit≤ tt) a.frames.now a.plan a.from (files_of a.lens a.log.now a.db.now a.clog.now) in
+    carried-done 4096 (drop a.from (meant 4096 a.frames.now a.plan)) (a.k - a.from) (files_of a.lens a.log.now a.db.now a.clog.now) 0 n (files_of k.result k.new.log k.new.db k.new.clog) refl k.ensures

@@ -37,7 +37,7 @@ pub returns-in-SetSlot : goal.returns-in-SetSlot
 unfolding lens_after
 returns-in-SetSlot c =
     let a = c.args in
-    c.lengths-in-SetSlot.ensures ∙ ap (λ (m : ℕ). lens a.lens.log a.lens.db m) c.larger.ensures ∙ sym (ap (λ (s : Step). lens_after 4096 s a.lens) c.in-SetSlot.is)
+    c.lengths-in-SetSlot.ensures ∙ ap (λ (m : ℕ). lens a.lens.log a.lens.db m) c.max.ensures ∙ sym (ap (λ (s : Step). lens_after 4096 s a.lens) c.in-SetSlot.is)
 
 pub returns-in-Compact : goal.returns-in-Compact
 unfolding lens_after

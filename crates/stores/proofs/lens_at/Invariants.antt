@@ -7,9 +7,5 @@ use Rattle.stores.specs.Inside.{tell_steps}
 use Rattle.stores.proofs.lens_at.Given as goal
 
 abbrev pub invariant-loop-i : goal.invariant-loop-i
-invariant-loop-i l = (l.i ≤ l.k)
-    × (l.at.log ≤ l.initial.at.log + l.i * 4113)
+invariant-loop-i l = (l.at.log ≤ l.initial.at.log + l.i * 4113)
     × (drop (l.k - l.i) (tell_steps 4096 (drop l.i (steps_of l.plan)) l.at) ≡ drop l.k (tell_steps 4096 (steps_of l.plan) l.initial.at))
-
-abbrev pub decreases-loop-i : goal.decreases-loop-i
-decreases-loop-i l = l.k - l.i

@@ -10,4 +10,4 @@ returns c =
     let k = c.put_meta in
     let a = c.args in
     let m = a.m in
-    meta-file 4096 c.larger.result a.len (meta_page 4096 m.next.0 m.time.0 m.mark.0) a.db.now k.new.buf (length-meta 4096 (lit≤ tt) m.next.0 m.time.0 m.mark.0) k.ensures c.larger.ensures
+    meta-file 4096 c.max.result a.len (meta_page 4096 m.next.0 m.time.0 m.mark.0) a.db.now k.new.buf (length-meta 4096 (lit≤ tt) m.next.0 m.time.0 m.mark.0) k.ensures c.max.ensures

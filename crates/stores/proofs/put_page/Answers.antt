@@ -10,4 +10,4 @@ returns c =
     let k = c.lay_frame in
     let z = c.zero_fill in
     let a = c.args in
-    page-file 4096 (a.page * 4096) c.larger.result a.len (frame_of 4096 a.frames.now a.slot) a.db.now z.new.b k.new.b (length-frame 4096 a.frames.now a.slot) z.ensures k.ensures c.larger.ensures
+    page-file 4096 (a.page * 4096) c.max.result a.len (frame_of 4096 a.frames.now a.slot) a.db.now z.new.b k.new.b (length-frame 4096 a.frames.now a.slot) z.ensures k.ensures c.max.ensures

@@ -2,11 +2,11 @@
 use mathlib.Core.Path.{◌≡◌}
 use Prim.Native.Nat.{◌-◌, ◌≤◌}
 use lib.ListN.{length}
-use Rattle.sweeps.specs.Inside.{free, busy_from}
+use Rattle.sweeps.specs.Inside.{busy_from}
 use Rattle.sweeps.proofs.past_free.Given as goal
 
-abbrev pub invariant-loop-go : goal.invariant-loop-go
-invariant-loop-go l = (l.at ≤ l.i) × (l.i ≤ length l.s) × (l.go ≡ free l.s l.i) × (busy_from l.s l.i ≡ busy_from l.s l.at)
+abbrev pub invariant-loop-i : goal.invariant-loop-i
+invariant-loop-i l = (l.at ≤ l.i) × (l.i ≤ length l.s) × (busy_from l.s l.i ≡ busy_from l.s l.at)
 
-abbrev pub decreases-loop-go : goal.decreases-loop-go
-decreases-loop-go l = length l.s - l.i
+abbrev pub decreases-loop-i : goal.decreases-loop-i
+decreases-loop-i l = length l.s - l.i

@@ -4,9 +4,8 @@ use Prim.Native.Nat.{◌+◌}
 use native.Mathlib.Omega.{arith}
 use lib.ListN.{take, set, length-set}
 use lib.Seq.{length-take-le}
-use Rattle.clog.proofs.Ways.{settle-turn, settle-end}
 use Rattle.sweeps.proofs.Zeros.{busy-within}
-use Rattle.sweeps.proofs.Laws.{settle-skip}
+use Rattle.sweeps.proofs.Laws.{settle-skip, settle-turn, settle-end}
 use Rattle.sweeps.proofs.settle_in.Goals as goal
 
 pub slice_bounds-next_busy-end-2 : goal.slice_bounds-next_busy-end-2

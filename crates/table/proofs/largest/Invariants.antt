@@ -1,14 +1,11 @@
 -- `table::largest` meets its contract. The loop's invariant: the larger of the number held and the largest of what is left is the largest of all.
--- The measure is how many are left. Assumes nothing.
-use Prim.Native.Nat.{◌≤◌, ◌-◌, max}
+-- Assumes nothing.
+use Prim.Native.Nat.{max}
 use mathlib.Core.Path.{◌≡◌}
 use lib.ListN.{drop}
-use Rattle.table.specs.Entries.{largest_by, list_of}
+use Rattle.table.specs.Entries.{largest_by}
 use Rattle.table.specs.Inside.{number_of}
 use Rattle.table.proofs.largest.Given as goal
 
-abbrev pub invariant-loop-i : goal.invariant-loop-i
-invariant-loop-i l = (l.i ≤ l.n) × (max l.m (largest_by (number_of l.times) (drop l.i (list_of l.t))) ≡ largest_by (number_of l.times) (list_of l.t))
-
-abbrev pub decreases-loop-i : goal.decreases-loop-i
-decreases-loop-i l = l.n - l.i
+abbrev pub invariant-loop-e : goal.invariant-loop-e
+invariant-loop-e l = max l.m (largest_by (number_of l.times) (drop l.e-index l.e-items)) ≡ largest_by (number_of l.times) l.e-items

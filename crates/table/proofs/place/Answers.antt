@@ -1,29 +1,21 @@
--- `table::place` meets its contract. The loop's invariant: the place is what was passed and the place in what is left. The measure is how many are left.
--- Assumes nothing.
-use mathlib.Core.Path.{◌≡◌, sym}
-use native.Mathlib.Nat.{zero-add}
+-- `table::place` meets its contract. The loop's invariant: the place is what was passed and the place in what is left. Assumes nothing.
 use native.Mathlib.Omega.{arith}
-use borrow.Author.Rules.{rules}
-use lib.ListN.{length}
-use Rattle.sorted.proofs.Laws.{place-stop, place-on, place_end}
+use borrow.Author.Tests.{lt-ltb, le-ltb}
+use Rattle.sorted.proofs.Laws.{place-at, place-past}
 use Rattle.table.specs.Entries.{id_of, blank}
 use Rattle.table.proofs.place.Goals as goal
 
-pub loop-i-init : goal.loop-i-init
-loop-i-init c = (search rules, sym (zero-add _))
-
-pub returns-then-id-e : goal.returns-then-id-e
-returns-then-id-e c =
+pub returns-then-id-e-clause-is : goal.returns-then-id-e-clause-is
+returns-then-id-e-clause-is c =
     let a = c.args in
-    omega (arith, place-stop id_of blank a.id.0 a.entries a.n c.loop-i.i c.if-id-e.true (omega arith) (search rules))
+    omega (arith, c.loop-i.invariant, rw (le-ltb _ _ c.if-id-e.true) at (place-at id_of blank a.id.0 a.entries.now c.loop-i.i c.loop-i-test.true))
 
 pub loop-i-preserved : goal.loop-i-preserved
 loop-i-preserved c =
     let a = c.args in
-    omega (arith, place-on id_of blank a.id.0 a.entries a.n c.loop-i.i c.if-id-e.false (omega arith) (search rules))
+    omega (arith, c.loop-i.invariant, rw (lt-ltb _ _ c.if-id-e.false) at (place-at id_of blank a.id.0 a.entries.now c.loop-i.i c.loop-i-test.true))
 
-pub returns : goal.returns
-returns c =
+pub returns-clause-is : goal.returns-clause-is
+returns-clause-is c =
     let a = c.args in
-    let len : length a.entries ≡ 256 = search rules in
-    omega (arith, place_end id_of blank a.id.0 a.entries a.n c.loop-i.i (omega arith))
+    omega (arith, c.loop-i.invariant, place-past id_of blank a.id.0 a.entries.now c.loop-i.i c.loop-i-test.false)

@@ -1,27 +1,33 @@
--- `wal::append_checkpoint` meets its contract. Assumes nothing.
-use mathlib.Core.Path.{refl}
-use native.Mathlib.Omega.{arith}
+-- `wal::append_checkpoint` meets its contract: a law of proofs/WriteLaws.antt for each way out. Assumes nothing.
+use Rattle.std.proofs.Common.{arith, refl, ap, ◌∙◌}
+use Rattle.fields.specs.Answers.{outcome}
+use Rattle.fields.proofs.AnswerLaws.{handed-on}
 use Rattle.wal.specs.Records.{encode, checkpoint}
 use Rattle.wal.specs.Writing.{appended}
 use Rattle.wal.proofs.WriteLaws.{bytes-refused, bytes-accepted, has_room}
 use Rattle.wal.proofs.append_checkpoint.Goals as goal
 
-pub returns-then-number-ne-ACCEPTED : goal.returns-then-number-ne-ACCEPTED
+pub returns-in_err-check_append : goal.returns-in_err-check_append
 unfolding appended encode
-returns-then-number-ne-ACCEPTED c =
+returns-in_err-check_append c =
     let a = c.args in
-    bytes-refused _ (encode checkpoint) a.log.now a.len 1 c.append_no-number.result refl c.append_no-number.ensures c.if-number-ne-ACCEPTED.true
+    let e = c.in_err-check_append in
+    ap (λ r. outcome r a.log.now) (handed-on _ _ c.from_residual.ensures) ∙ bytes-refused _ (encode checkpoint) a.log.now a.len 1 _ refl e.ensures _ refl
 
 pub bounds-log-len : goal.bounds-log-len
 unfolding encode
-bounds-log-len c = omega (arith, (let a = c.args in has_room _ (encode checkpoint) a.log.now a.len 1 c.append_no-number.result refl c.append_no-number.ensures (omega arith)))
+bounds-log-len c =
+    let a = c.args in
+    omega (arith, has_room _ (encode checkpoint) a.log.now a.len 1 0 refl c.in_ok-check_append.ensures refl)
 
 pub overflow_add-result : goal.overflow_add-result
 unfolding encode
-overflow_add-result c = omega (arith, (let a = c.args in has_room _ (encode checkpoint) a.log.now a.len 1 c.append_no-number.result refl c.append_no-number.ensures (omega arith)))
+overflow_add-result c =
+    let a = c.args in
+    omega (arith, has_room _ (encode checkpoint) a.log.now a.len 1 0 refl c.in_ok-check_append.ensures refl)
 
 pub returns : goal.returns
 unfolding appended encode
 returns c =
     let a = c.args in
-    bytes-accepted _ (encode checkpoint) a.log.now a.len 1 c.append_no-number.result refl c.append_no-number.ensures _ _ (omega arith) refl refl
+    bytes-accepted _ (encode checkpoint) a.log.now a.len 1 0 refl c.in_ok-check_append.ensures _ _ refl refl refl

@@ -4,14 +4,14 @@ use borrow.Author.Tests.{eq-eqb, ne_eqb}
 use Rattle.xacts.specs.Pages.{read_as}
 use Rattle.xacts.proofs.read_as.Goals as goal
 
-pub returns-then-c-eq-PAGE_COMMITTED : goal.returns-then-c-eq-PAGE_COMMITTED
+pub returns-in-1 : goal.returns-in-1
 unfolding read_as
-returns-then-c-eq-PAGE_COMMITTED c = (rw (eq-eqb _ 1 c.if-c-eq-PAGE_COMMITTED.true), omega arith)
+returns-in-1 c = (rw (eq-eqb _ 1 c.in-1.is), omega arith)
 
-pub returns-then-c-eq-PAGE_ABORTED : goal.returns-then-c-eq-PAGE_ABORTED
+pub returns-in-2 : goal.returns-in-2
 unfolding read_as
-returns-then-c-eq-PAGE_ABORTED c = (rw (ne_eqb _ 1 c.if-c-eq-PAGE_COMMITTED.false, eq-eqb _ 2 c.if-c-eq-PAGE_ABORTED.true), omega arith)
+returns-in-2 c = (rw (ne_eqb c.args.c 1 (λ e. omega arith), eq-eqb _ 2 c.in-2.is), omega arith)
 
-pub returns : goal.returns
+pub returns-in_default : goal.returns-in_default
 unfolding read_as
-returns c = (rw (ne_eqb _ 1 c.if-c-eq-PAGE_COMMITTED.false, ne_eqb _ 2 c.if-c-eq-PAGE_ABORTED.false), omega arith)
+returns-in_default c = (rw (ne_eqb c.args.c 1 (λ e. omega arith), ne_eqb c.args.c 2 (λ e. omega arith)), omega arith)

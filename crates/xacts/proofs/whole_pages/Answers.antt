@@ -5,4 +5,4 @@ use Rattle.xacts.proofs.whole_pages.Goals as goal
 
 pub returns : goal.returns
 unfolding whole_pages
-returns c = omega arith
+returns c = omega (arith, c.next_multiple_of.ensures.value)

@@ -1,5 +1,4 @@
--- `xacts::write_body` meets its contract. The loop's invariant: writing what is left gives what was asked for.
--- The measure is how many bytes are left. Assumes nothing.
+-- `xacts::write_body` meets its contract. Assumes nothing.
 use mathlib.Core.Path.{refl, sym, ◌∙◌}
 use native.Mathlib.Omega.{arith}
 use lib.ListN.{length-set}
@@ -8,20 +7,10 @@ use Rattle.xacts.proofs.Remade.{remade-turn, remade-end}
 use Rattle.xacts.proofs.write_body.Goals as goal
 
 pub loop-i-init : goal.loop-i-init
-loop-i-init c = (omega arith, refl, refl)
+loop-i-init c = (refl, refl)
 
 pub loop-i-preserved : goal.loop-i-preserved
-loop-i-preserved c =
-    let l = c.loop-i in
-    let a = c.args in
-    let t = remade-turn (written_as a.mark) a.body.now l.out l.i c.written_byte-b.result (omega arith) c.written_byte-b.ensures in
-    (omega arith, simp length-set l.invariant.1, t ∙ l.invariant.2)
-
-pub shape_of-out : goal.shape_of-out
-shape_of-out c = c.loop-i.invariant.1
+loop-i-preserved c = let l = c.loop-i in (simp length-set l.invariant.0, remade-turn (written_as c.args.mark) _ l.out l.i _ (omega arith) c.written_byte.ensures ∙ l.invariant.1)
 
 pub returns : goal.returns
-returns c =
-    let l = c.loop-i in
-    let a = c.args in
-    sym (remade-end (written_as a.mark) a.body.now l.out l.i (omega arith)) ∙ l.invariant.2
+returns c = let l = c.loop-i in sym (remade-end (written_as c.args.mark) _ l.out l.i (omega arith)) ∙ l.invariant.1

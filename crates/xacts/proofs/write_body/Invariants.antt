@@ -1,14 +1,10 @@
--- `xacts::write_body` meets its contract. The loop's invariant: writing what is left gives what was asked for.
--- The measure is how many bytes are left. Assumes nothing.
+-- `xacts::write_body` meets its contract. The loop's invariant: writing what is left gives what was asked for. Assumes nothing.
 use mathlib.Core.Path.{◌≡◌}
-use Prim.Native.Nat.{◌-◌, ◌*◌, ◌≤◌}
+use Prim.Native.Nat.{◌*◌}
 use lib.ListN.{length, drop}
 use lib.Seq.{sets}
 use Rattle.xacts.specs.Pages.{written_as, remade}
 use Rattle.xacts.proofs.write_body.Given as goal
 
 abbrev pub invariant-loop-i : goal.invariant-loop-i
-invariant-loop-i l = (l.i ≤ length l.body) × (length l.out ≡ length l.initial.out) × (sets l.out l.i (remade (written_as l.mark) (4 * l.i) (drop l.i l.body)) ≡ sets l.initial.out 0 (remade (written_as l.mark) 0 l.body))
-
-abbrev pub decreases-loop-i : goal.decreases-loop-i
-decreases-loop-i l = length l.body - l.i
+invariant-loop-i l = (length l.out ≡ length l.initial.out) × (sets l.out l.i (remade (written_as l.mark) (4 * l.i) (drop l.i l.body)) ≡ sets l.initial.out 0 (remade (written_as l.mark) 0 l.body))

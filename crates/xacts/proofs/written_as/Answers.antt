@@ -8,14 +8,14 @@ pub returns-then-id-mark : goal.returns-then-id-mark
 unfolding written_as
 returns-then-id-mark c = (rw (lt-ltb _ _ c.if-id-mark.true), omega arith)
 
-pub returns-then-c-eq-COMMITTED : goal.returns-then-c-eq-COMMITTED
+pub returns-in-2 : goal.returns-in-2
 unfolding written_as
-returns-then-c-eq-COMMITTED c = (rw (le-ltb _ _ c.if-id-mark.false, eq-eqb _ 2 c.if-c-eq-COMMITTED.true), omega arith)
+returns-in-2 c = (rw (le-ltb _ _ c.if-id-mark.false, eq-eqb _ 2 c.in-2.is), omega arith)
 
-pub returns-then-c-eq-ABORTED : goal.returns-then-c-eq-ABORTED
+pub returns-in-3 : goal.returns-in-3
 unfolding written_as
-returns-then-c-eq-ABORTED c = (rw (le-ltb _ _ c.if-id-mark.false, ne_eqb _ 2 c.if-c-eq-COMMITTED.false, eq-eqb _ 3 c.if-c-eq-ABORTED.true), omega arith)
+returns-in-3 c = (rw (le-ltb _ _ c.if-id-mark.false, ne_eqb c.args.c 2 (λ e. omega arith), eq-eqb _ 3 c.in-3.is), omega arith)
 
-pub returns : goal.returns
+pub returns-in_default : goal.returns-in_default
 unfolding written_as
-returns c = (rw (le-ltb _ _ c.if-id-mark.false, ne_eqb _ 2 c.if-c-eq-COMMITTED.false, ne_eqb _ 3 c.if-c-eq-ABORTED.false), omega arith)
+returns-in_default c = (rw (le-ltb _ _ c.if-id-mark.false, ne_eqb c.args.c 2 (λ e. omega arith), ne_eqb c.args.c 3 (λ e. omega arith)), omega arith)

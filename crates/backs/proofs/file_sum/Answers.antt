@@ -1,7 +1,0 @@
--- `backs::file_sum` is safe. Assumes nothing.
-use native.Mathlib.Omega.{arith}
-use lib.ListN.{length-take}
-use Rattle.backs.proofs.file_sum.Goals as goal
-
-pub slice_bounds-sum-end : goal.slice_bounds-sum-end
-slice_bounds-sum-end g c = simp length-take (omega arith)

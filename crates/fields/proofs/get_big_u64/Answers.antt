@@ -1,0 +1,6 @@
+-- `fields::get_big_u64` meets its contract: the part read as a number is the field. Assumes nothing.
+use Rattle.fields.proofs.Words.{get-big-8}
+use Rattle.fields.proofs.get_big_u64.Goals as goal
+
+pub returns : goal.returns
+returns c = get-big-8 _ c.args.at c.args.b.now _ c.last_bytes_at.ensures c.from_be_bytes.ensures
