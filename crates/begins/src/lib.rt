@@ -1,6 +1,7 @@
 // Begin and flush on a store that stands where it is lent: the calls with stores that leave the frames as they are. Each is made ready, then carried out, cut,
 // counted or told as crate acts does it. Every public function is total: its contract is one equation, which says the answer, the store where it stands and every
-// byte of the buffers.
+// byte of the buffers. The whole calls match what was made ready, and have no `?`: that would hand it on by value, twice over, which is half of what a flush in a
+// transaction costs.
 #![tactic(auto)]
 
 ghost use Rattle.std.specs.Prelude.{◌≡◌};
@@ -69,7 +70,7 @@ pub fn begin(
 ) -> Result<Head, Refusal>
     ensures { leaving (replied h result).number (lent (replied h result).head rows.new resident.new touched.new) log.new db.new clog.new frames.new ≡ called_lent 4096 (Begin id) (lent h rows.old resident.old touched.old) log.old db.old clog.old frames.old }
 {
-    let m = ready_begin(
+    match ready_begin(
         h,
         &*rows,
         &*resident,
@@ -79,8 +80,10 @@ pub fn begin(
         &db[..],
         &clog[..],
         &frames[..],
-    )?;
-    Ok(acts::carry_out(m, rows, resident, touched, log, db, clog, frames))
+    ) {
+        Ok(m) => Ok(acts::carry_out(m, rows, resident, touched, log, db, clog, frames)),
+        Err(r) => Err(r),
+    }
 }
 
 pub fn begin_to(
@@ -198,7 +201,7 @@ pub fn flush(
 ) -> Result<Head, Refusal>
     ensures { leaving (replied h result).number (lent (replied h result).head rows.new resident.new touched.new) log.new db.new clog.new frames.new ≡ called_lent 4096 (Flush page) (lent h rows.old resident.old touched.old) log.old db.old clog.old frames.old }
 {
-    let m = ready_flush(
+    match ready_flush(
         h,
         &*rows,
         &*resident,
@@ -208,8 +211,10 @@ pub fn flush(
         &db[..],
         &clog[..],
         &frames[..],
-    )?;
-    Ok(acts::carry_out(m, rows, resident, touched, log, db, clog, frames))
+    ) {
+        Ok(m) => Ok(acts::carry_out(m, rows, resident, touched, log, db, clog, frames)),
+        Err(r) => Err(r),
+    }
 }
 
 pub fn flush_to(

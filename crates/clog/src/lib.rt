@@ -227,17 +227,17 @@ pub fn span_below(len: usize, below: TransactionId) -> usize
         .min(below.0.div_ceil(4) as usize)
 }
 
-// The slots under w of the bytes become 0. Bytes with no such slot are not visited; the slots of the next byte are four further on.
+// The slots under w of the bytes become 0: of those that lie under it as a whole nothing is left, then those of the byte in which it falls. No byte after that is
+// visited.
 fn clear(body: &mut [u8], w: u64)
     ensures { body.new ≡ cleared w body.old }
 {
-    let mut left = w;
-    for b in body.iter_mut() {
-        if left == 0 {
-            return;
-        }
-        *b = high_bits(*b, left);
-        left = left.saturating_sub(4);
+    let whole = body.len().min((w / 4) as usize);
+    for i in 0..whole {
+        body[i] = high_bits(body[i], 4);
+    }
+    if whole < body.len() {
+        body[whole] = high_bits(body[whole], w % 4);
     }
 }
 

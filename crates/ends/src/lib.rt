@@ -1,6 +1,6 @@
 // The calls that end with page 0, on a store that stands where it is lent: advancing the mark, commit and rollback. Each is made ready here, then carried out, cut,
 // counted or told as crate acts does it. Every public function is total: its contract is one equation, which says the answer, the store where it stands and every
-// byte of the buffers.
+// byte of the buffers. The whole calls match what was made ready, and have no `?`: that would hand it on by value, twice over, and need the more stack.
 #![tactic(auto)]
 
 ghost use Rattle.std.specs.Prelude.{◌≡◌};
@@ -148,7 +148,7 @@ pub fn advance(
 ) -> Result<Head, Refusal>
     ensures { leaving (replied h result).number (lent (replied h result).head rows.new resident.new touched.new) log.new db.new clog.new frames.new ≡ called_lent 4096 (Advance mark) (lent h rows.old resident.old touched.old) log.old db.old clog.old frames.old }
 {
-    let m = ready_advance(
+    match ready_advance(
         h,
         &*rows,
         &*resident,
@@ -158,8 +158,10 @@ pub fn advance(
         &db[..],
         &clog[..],
         &frames[..],
-    )?;
-    Ok(acts::carry_out(m, rows, resident, touched, log, db, clog, frames))
+    ) {
+        Ok(m) => Ok(acts::carry_out(m, rows, resident, touched, log, db, clog, frames)),
+        Err(r) => Err(r),
+    }
 }
 
 pub fn advance_to(
@@ -285,7 +287,7 @@ pub fn commit(
 ) -> Result<Head, Refusal>
     ensures { leaving (replied h result).number (lent (replied h result).head rows.new resident.new touched.new) log.new db.new clog.new frames.new ≡ called_lent 4096 Commit (lent h rows.old resident.old touched.old) log.old db.old clog.old frames.old }
 {
-    let m = ready_commit(
+    match ready_commit(
         h,
         &*rows,
         &*resident,
@@ -294,8 +296,10 @@ pub fn commit(
         &db[..],
         &clog[..],
         &frames[..],
-    )?;
-    Ok(acts::carry_out(m, rows, resident, touched, log, db, clog, frames))
+    ) {
+        Ok(m) => Ok(acts::carry_out(m, rows, resident, touched, log, db, clog, frames)),
+        Err(r) => Err(r),
+    }
 }
 
 pub fn commit_to(
@@ -453,7 +457,7 @@ pub fn rollback(
 ) -> Result<Head, Refusal>
     ensures { leaving (replied h result).number (lent (replied h result).head rows.new resident.new touched.new) log.new db.new clog.new frames.new ≡ called_lent 4096 (Rollback list.now) (lent h rows.old resident.old touched.old) log.old db.old clog.old frames.old }
 {
-    let m = ready_rollback(
+    match ready_rollback(
         h,
         &*rows,
         &*resident,
@@ -463,8 +467,10 @@ pub fn rollback(
         &db[..],
         &clog[..],
         &frames[..],
-    )?;
-    Ok(acts::carry_out(m, rows, resident, touched, log, db, clog, frames))
+    ) {
+        Ok(m) => Ok(acts::carry_out(m, rows, resident, touched, log, db, clog, frames)),
+        Err(r) => Err(r),
+    }
 }
 
 pub fn rollback_to(

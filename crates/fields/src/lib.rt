@@ -38,14 +38,29 @@ fn inside(len: usize, at: usize, n: usize) -> usize
 
 // ---- numbers, the lowest byte first
 
-// The N bytes from `at` on; what lies past the end counts as 0.
+// The first N bytes of what is left of a buffer, which are not all there; the rest counts as 0.
+#[cold]
+fn last_bytes<const N: usize>(rest: &[u8]) -> [u8; N]
+    ensures { result ≡ sets (replicate N 0) 0 rest.now }
+{
+    let mut bytes = [0; N];
+    copy(&mut bytes, rest);
+    bytes
+}
+
+// The N bytes from `at` on; what lies past the end counts as 0. Where all lie inside, N is the length of a copy that becomes one load.
 fn bytes_at<const N: usize>(b: &[u8], at: usize) -> [u8; N]
     ensures { result ≡ part N b.now at }
 {
     let mut bytes = [0; N];
-    if at < b.len() {
-        copy(&mut bytes, &b[at..]);
+    if b.len() <= at {
+        return bytes;
     }
+    let rest = &b[at..];
+    if rest.len() < N {
+        return last_bytes(rest);
+    }
+    bytes.copy_from_slice(&rest[..N]);
     bytes
 }
 
@@ -113,12 +128,28 @@ pub fn put_big_u64(b: &mut [u8], at: usize, v: u64)
 
 // ---- parts
 
-// src over the front of dst, as much of it as fits.
-pub fn copy(dst: &mut [u8], src: &[u8])
+// src over dst, which is as long. Not by std's `copy_from_slice`: that becomes memmove, which the archive for C would then ask of its host; this loop becomes memcpy,
+// and where the length is known, as that of a number, a load or a store.
+fn copy_all<T: Copy>(dst: &mut [T], src: &[T])
+    requires { length dst.old ≡ length src.now }
+    ensures { dst.new ≡ src.now }
+{
+    for i in 0..dst.len() {
+        dst[i] = src[i];
+    }
+}
+
+// src over the front of dst, as much of it as fits. Each way has the length of one of the two.
+pub fn copy<T: Copy>(dst: &mut [T], src: &[T])
     ensures { dst.new ≡ sets dst.old 0 src.now }
 {
-    let k = inside(dst.len(), 0, src.len());
-    dst[..k].copy_from_slice(&src[..k]);
+    let n = dst.len();
+    let k = src.len();
+    if k <= n {
+        copy_all(&mut dst[..k], src);
+    } else {
+        copy_all(dst, &src[..n]);
+    }
 }
 
 // src from `at` on: the part of the buffer from there on is lent to the copy.

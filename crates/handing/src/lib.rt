@@ -20,6 +20,6 @@ pub fn hand_out_table(
 ) -> Result<usize, Refusal>
     ensures { handed_as result out.new ≡ table_handed 4096 s log.now db.now clog.now frames.now out.old }
 {
-    let before = form::check_front(s, log, db, clog, frames);
-    hands::hand_after(s.table, out, before)
+    form::check_front(s, log, db, clog, frames)?;
+    hands::hand_out(s.table, out)
 }

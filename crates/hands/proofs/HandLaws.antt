@@ -17,7 +17,7 @@ use Rattle.fields.proofs.AnswerLaws.{number-positive, told_same}
 use Rattle.table.specs.declared.Entry.{Entry}
 use Rattle.table.specs.declared.Table.{Table}
 use Rattle.table.specs.Entries.{list_of, ascending, well_formed}
-use Rattle.hands.specs.Handing.{Handed, handed_as, handed_by, hand_no, handed}
+use Rattle.hands.specs.Handing.{Handed, handed_as, numbered_as, handed_by, hand_no, handed}
 use Rattle.hands.specs.Inside.{told_if, hand_told}
 
 -- ---- lists
@@ -75,7 +75,22 @@ module _ (N : ℕ) (t : Table) (xs : List Entry) (before : ℕ) where
       let l : length (list_of t) ≡ t.count = length-take-le t.count t.entries (omega (arith, len, (no-means N t (length xs) before h.0).0)) in
       rw (h.0, h.1, l)
 
+  -- a number of tests before is the answer's, whatever it is
+  pub hand-before : (before ≡ 0 → ⊥) → numbered_as (Err before) xs ≡ handed N t xs before
+  unfolding handed hand_no handed_by
+  hand-before h = go before h
+    where
+      go : (n : ℕ) → (n ≡ 0 → ⊥) → numbered_as (Err n) xs ≡ handed N t xs n
+      go zero f = absurd (f refl)
+      go (suc n) f = refl
+
 -- ---- two answers that one contract allows are equal, and so is every entry of the slice
 
 pub handed-same : (a b : Result ℕ Refusal) (xs ys : List Entry) → handed_as a xs ≡ handed_as b ys → (a ≡ b) × (xs ≡ ys)
 handed-same a b xs ys e = (told_same a b (ap (λ (h : Handed). h.told) e), ap (λ (h : Handed). h.slice) e)
+
+pub numbered-same : (a b : Result ℕ ℕ) (xs ys : List Entry) → numbered_as a xs ≡ numbered_as b ys → (a ≡ b) × (xs ≡ ys)
+numbered-same (Ok m) (Ok n) xs ys e = (ap (λ (k : ℕ). Ok k) (ap (λ (h : Handed). get_or h.told.values 0 0) e), ap (λ (h : Handed). h.slice) e)
+numbered-same (Err m) (Err n) xs ys e = (ap (λ (k : ℕ). Err k) (ap (λ (h : Handed). h.told.number) e), ap (λ (h : Handed). h.slice) e)
+numbered-same (Ok m) (Err n) xs ys e = absurd (omega (arith, ap (λ (h : Handed). length h.told.values) e))
+numbered-same (Err m) (Ok n) xs ys e = absurd (omega (arith, ap (λ (h : Handed). length h.told.values) e))

@@ -1,7 +1,7 @@
 -- The table's entries handed out into a lent slice: all of them in front, ascending by id, and what stands after the last stays. Refusals in their order: what the
 -- tests before it refused, 14 a table out of form, 13 a slice shorter than the table. A refusal changes no entry of the slice. N is the table's limit.
 -- Assumes nothing.
-use Rattle.std.specs.Prelude.{ℕ, zero, suc, List, [], ◌∷◌, cond, length, ltb, Result}
+use Rattle.std.specs.Prelude.{ℕ, zero, suc, List, [], ◌∷◌, cond, length, ltb, Result, Ok, Err}
 use Rattle.fields.specs.declared.refusal.Refusal.{Refusal}
 use Rattle.fields.specs.Answers.{Told, told}
 use Rattle.sorted.specs.Sorted.{laid_on}
@@ -16,6 +16,11 @@ pub record Handed : Type 0 where
 
 abbrev pub handed_as : Result ℕ Refusal → List Entry → Handed
 handed_as a slice = record { told = told a; slice = slice }
+
+-- of an answer that has its refusal by number
+abbrev pub numbered_as : Result ℕ ℕ → List Entry → Handed
+numbered_as (Ok n) slice = record { told = record { number = 0; values = n ∷ [] }; slice = slice }
+numbered_as (Err number) slice = record { told = record { number = number; values = [] }; slice = slice }
 
 -- the entries l handed out into a slice, where the number is 0
 unfoldable pub handed_by : List Entry → List Entry → ℕ → Handed

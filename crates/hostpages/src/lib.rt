@@ -252,7 +252,7 @@ fn hand_out(rows: &[[u64; 3]; 256], n: usize, out: &mut [[u64; 3]])
     ensures { out.new ≡ laid_on out.old (take n rows.now) }
 {
     let k = n.min(256);
-    out[..k].copy_from_slice(&rows[..k]);
+    fields::copy(out, &rows[..k]);
 }
 
 // All rows over the front of out; 13, and nothing stored, where it has too few places.

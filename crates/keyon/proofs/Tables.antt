@@ -8,7 +8,6 @@ use lib.ListN.{length, get_or}
 use borrow.Author.Tests.{eq-eqb, ne_eqb}
 use Rattle.fields.proofs.Tests.{Order, less, most, order}
 use Rattle.fields.specs.Files.{file_of, room, unfit}
-use Rattle.fields.specs.Refusals.{number_in}
 use Rattle.table.specs.declared.Entry.{Entry}
 use Rattle.table.specs.Entries.{blank, id_of, insert_all}
 use Rattle.rows.specs.declared.Filled.{Filled}
@@ -56,18 +55,18 @@ module _ (P : ℕ) (f : Files) (fit : unfit 1048576 (room f.clog) f.clog.len ≡
     pub joined-fits : rowed h logged ≡ holding a (log_table P f.log) → length (full_table P f) ≤ 256 → t ≡ holding full (full_table P f)
     unfolding joined full_table
     joined-fits k m =
-        let n : number_in h.set ≡ 0 = ap (λ (r : Rowed). r.number) k in
+        let n : h.number ≡ 0 = ap (λ (r : Rowed). r.number) k in
         let c : h.count ≡ length (log_table P f.log) = ap (λ (r : Rowed). r.count) k in
         let l : logged ≡ rows_of a (log_table P f.log) = ap (λ (r : Rowed). r.rows) k in
         let x : entries_of h.count logged ≡ log_table P f.log = rw (c, l) (entries-held a (log_table P f.log)) in
         let w : length (clog_table f.clog) ≤ 256 = omega (arith, clog-within P f) in
-        e ∙ rw (eq-eqb (number_in h.set) 0 n, x, listed-fits w) (all-fits 256 full (log_table P f.log) (clog_table f.clog) m)
+        e ∙ rw (eq-eqb (h.number) 0 n, x, listed-fits w) (all-fits 256 full (log_table P f.log) (clog_table f.clog) m)
 
     pub joined-full : rowed h logged ≡ holding a (log_table P f.log) → 256 < length (full_table P f) → t.number ≡ 7
     unfolding joined full_table
     joined-full k m = go (order 256 (length (clog_table f.clog)))
       where
-        n : number_in h.set ≡ 0
+        n : h.number ≡ 0
         n = ap (λ (r : Rowed). r.number) k
 
         x : entries_of h.count logged ≡ log_table P f.log
@@ -80,14 +79,14 @@ module _ (P : ℕ) (f : Files) (fit : unfit 1048576 (room f.clog) f.clog.len ≡
         go (less p) =
             let q = listed-full p in
             let w : t ≡ listed full f.clog =
-            e ∙ rw (eq-eqb (number_in h.set) 0 n) (set_ended 256 (listed full f.clog) (entries_of h.count logged) (λ z. omega (arith, q, z))) in
+            e ∙ rw (eq-eqb (h.number) 0 n) (set_ended 256 (listed full f.clog) (entries_of h.count logged) (λ z. omega (arith, q, z))) in
             ap (λ (r : Rowed). r.number) w ∙ q
         go (most p) =
-            ap (λ (r : Rowed). r.number) e ∙ rw (eq-eqb (number_in h.set) 0 n, x, listed-fits p) (all-full 256 full (log_table P f.log) (clog_table f.clog) p m)
+            ap (λ (r : Rowed). r.number) e ∙ rw (eq-eqb (h.number) 0 n, x, listed-fits p) (all-full 256 full (log_table P f.log) (clog_table f.clog) p m)
 
-    pub joined-none : (number_in h.set ≡ 0 → ⊥) → t.number ≡ 7
+    pub joined-none : (h.number ≡ 0 → ⊥) → t.number ≡ 7
     unfolding joined
-    joined-none n = ap (λ (r : Rowed). r.number) e ∙ rw (ne_eqb (number_in h.set) 0 n)
+    joined-none n = ap (λ (r : Rowed). r.number) e ∙ rw (ne_eqb (h.number) 0 n)
 
 -- a file whose bytes are settled
 pub settled-file : (b out : List ℕ) (n : ℕ) → out ≡ (settled 8 (file_of b n)).bytes → file_of out n ≡ settled 8 (file_of b n)

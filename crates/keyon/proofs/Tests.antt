@@ -81,7 +81,7 @@ module _ (P : ℕ) (f : Files) (frames : List ℕ) where
         unfolding found
         held-is h = ap (λ (x : Survey). x.held) is_found ∙ logged-fits P f.log old h
 
-        held-full : 256 < length (log_table P f.log) → number_in s.held.set ≡ 7
+        held-full : 256 < length (log_table P f.log) → s.held.number ≡ 7
         unfolding found
         held-full h = ap (λ (x : Survey). x.held.number) is_found ∙ logged-full P f.log old h
 

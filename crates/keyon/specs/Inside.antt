@@ -2,7 +2,7 @@
 -- after replay. P is the page size. Assumes nothing.
 use Rattle.std.specs.Prelude.{◌≡◌, ℕ, ◌/◌, List, map, Bool, cond, ◌||◌, length, take, ltb, eqb, Option, Some, None, Result, Ok, Err}
 use Rattle.fields.specs.declared.refusal.Refusal.{Refusal}
-use Rattle.fields.specs.Refusals.{number_of, number_in}
+use Rattle.fields.specs.Refusals.{number_of}
 use Rattle.fields.specs.Answers.{no_id}
 use Rattle.fields.specs.Files.{File}
 use Rattle.table.specs.declared.Entry.{Entry}
@@ -36,7 +36,7 @@ room_by images ids log clog = cond (ltb log 8) 4 (cond images 5 (cond (ltb clog 
 
 -- the log's rows over those that the clog lists; 7 where one of them, or both together, are more than 256
 unfoldable pub joined : Filled → List (List ℕ) → File → List (List ℕ) → Rowed
-joined h logged clog full = cond (eqb (number_in h.set) 0) (set_all 256 (listed full clog) (entries_of h.count logged)) (rowed_as 7 0 full)
+joined h logged clog full = cond (eqb h.number 0) (set_all 256 (listed full clog) (entries_of h.count logged)) (rowed_as 7 0 full)
 
 -- the number of the opening, and how many rows both tables have
 pub record Tested : Type 0 where

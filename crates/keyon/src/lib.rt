@@ -62,9 +62,9 @@ fn join(
 ) -> Filled
     ensures { rowed result full.new ≡ joined h logged.now (file_of clog.now len) full.old }
 {
-    if h.set.is_err() {
+    if h.number != numbers::ACCEPTED {
         return Filled {
-            set: Err(Refusal::TableFull),
+            number: Refusal::TableFull.number(),
             count: 0,
         };
     }
@@ -90,7 +90,7 @@ fn test(
     let s = survey::survey(log, lens.log, db.len(), clog.len(), logged);
     check_room(s, log.len(), clog.len())?;
     let t = join(s.held, &*logged, clog, lens.clog, full);
-    if t.set.is_err() {
+    if t.number != numbers::ACCEPTED {
         return Err(Refusal::TableFull);
     }
     s.ending?;

@@ -138,11 +138,11 @@ pub fn entry_at(
 
 // A page that is to be read or written: whether it was resident, its slot, and the store with it resident.
 #[derive(Clone, Copy)]
-struct Seat {
+pub struct Seat {
     // No Option with the slot beside it: the slot is needed in both cases.
-    there: bool,
-    slot: usize,
-    store: Store,
+    pub there: bool,
+    pub slot: usize,
+    pub store: Store,
 }
 
 // What reading and writing a page have in common. No byte is changed here: a page that is read is filled from the file, one that is written is not.

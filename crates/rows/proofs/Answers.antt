@@ -3,20 +3,18 @@ use Prim.Native.Nat.{ℕ}
 use native.Mathlib.Omega.{arith}
 use mathlib.Core.Path.{◌≡◌, refl, sym, ap, ◌∙◌}
 use mathlib.Core.List.{List}
-use Rattle.std.specs.Prelude.{Result, Ok, Err, true, false}
-use Rattle.std.specs.Result.{is_err}
+use Rattle.std.specs.Prelude.{Result, Ok, Err}
 use Rattle.fields.specs.declared.refusal.Refusal.{Refusal}
-use Rattle.fields.specs.Refusals.{number_in}
-use Rattle.fields.proofs.AnswerLaws.{number-positive, number-same, number_in-same}
+use Rattle.fields.proofs.AnswerLaws.{number-positive, number-same}
 use Rattle.rows.specs.declared.Filled.{Filled}
 use Rattle.rows.specs.Rows.{Rowed, rowed, rowed_in, row_kept, Counted, counted_in}
 
 pub rowed-same : (a b : Filled) (rows rows' : List (List ℕ)) (o : Rowed) → rowed a rows ≡ o → rowed b rows' ≡ o → (a ≡ b) × (rows ≡ rows')
 rowed-same a b rows rows' o e f =
     let p = e ∙ sym f in
-    let s : a.set ≡ b.set = number_in-same a.set b.set (ap (λ (r : Rowed). r.number) p) in
+    let s : a.number ≡ b.number = ap (λ (r : Rowed). r.number) p in
     let n : a.count ≡ b.count = ap (λ (r : Rowed). r.count) p in
-    let q : a ≡ b = ap (λ (x : Result Unit Refusal). record { set = x; count = a.count }) s ∙ ap (λ (k : ℕ). record { set = b.set; count = k }) n in
+    let q : a ≡ b = ap (λ (x : ℕ). record { number = x; count = a.count }) s ∙ ap (λ (k : ℕ). record { number = b.number; count = k }) n in
     (q, ap (λ (r : Rowed). r.rows) p)
 
 pub counted-same : (n : ℕ) (a b : Result ℕ Refusal) → counted_in n a ≡ counted_in n b → a ≡ b
@@ -39,12 +37,3 @@ rowed_in-same n a b rows rows' o e f =
       counted-same n a b (kept n a rows ∙ ap row_kept p ∙ sym (kept n b rows')),
       laid n a rows ∙ ap (λ (r : Rowed). r.rows) p ∙ sym (laid n b rows'),
     )
-
--- a walk's answer is a refusal, or it is not
-pub refused-number : (a : Result Unit Refusal) → is_err a ≡ true → number_in a ≡ 0 → ⊥
-refused-number (Ok x) h e = cc
-refused-number (Err r) h e = omega (arith, number-positive r)
-
-pub set-number : (a : Result Unit Refusal) → is_err a ≡ false → number_in a ≡ 0
-set-number (Ok x) h = refl
-set-number (Err r) h = cc

@@ -2,7 +2,7 @@
 -- is 0 where the tag is not 1. A changed table is its rows laid in front of the array: what stands past the last entry stays. Assumes nothing.
 use Rattle.std.specs.Prelude.{ℕ, List, [], ◌∷◌, map, Bool, false, cond, not, ◌&&◌, ◌||◌, length, take, get_or, ltb, leb, eqb, Result, Ok, Err}
 use Rattle.fields.specs.declared.refusal.Refusal.{Refusal}
-use Rattle.fields.specs.Refusals.{number_of, number_in}
+use Rattle.fields.specs.Refusals.{number_of}
 use Rattle.sorted.specs.Sorted.{laid_on, insert_by}
 use Rattle.table.specs.declared.Status.{Status}
 use Rattle.table.specs.declared.Status.TheVariants.{Active, Committed, Aborted}
@@ -55,7 +55,7 @@ abbrev pub rowed_as : ℕ → ℕ → List (List ℕ) → Rowed
 rowed_as number count rows = record { number = number; count = count; rows = rows }
 
 abbrev pub rowed : Filled → List (List ℕ) → Rowed
-rowed r rows = rowed_as (number_in r.set) r.count rows
+rowed r rows = rowed_as r.number r.count rows
 
 -- the number and the count alone
 pub record Counted : Type 0 where

@@ -9,16 +9,16 @@ ghost use Rattle.table.specs.Inside.{number_of};
 ghost use Rattle.rows.specs.Rows.{status_in, odd_row, entry_of, row_of, set_row, held_row, set_all, rowed, rowed_in, row_kept, counted_in};
 ghost use Rattle.rows.specs.Inside.{place_of, bad_rows};
 
-use fields::{CommitTime, Refusal, TransactionId, arrays};
+use fields::{CommitTime, Refusal, TransactionId, arrays, numbers};
 use table::{Entry, Status, Table};
 
 const LIMIT: usize = 256;
 
-// How far entries were set one after the other: whether all of them were, and how many rows are held. From the first refusal on nothing changes: the count is
-// that of then.
+// How far entries were set one after the other: the number of the first refusal, 0 while there is none, and how many rows are held. From a number other than 0 on,
+// whatever it is, nothing changes: the count is that of then. A number, and no Refusal, since whoever goes on setting may hand in any.
 #[derive(Clone, Copy)]
 pub struct Filled {
-    pub set: Result<(), Refusal>,
+    pub number: u8,
     pub count: usize,
 }
 
@@ -162,12 +162,18 @@ pub fn with_status(
 pub fn hold(rows: &mut [[u64; 3]; 256], h: Filled, id: TransactionId, status: Status) -> Filled
     ensures { rowed result rows.new ≡ held_row 256 (rowed h rows.old) (record { id = id; status = status }) }
 {
-    if h.set.is_err() {
+    if h.number != numbers::ACCEPTED {
         return h;
     }
     match with_status(rows, h.count, id, status) {
-        Ok(count) => Filled { set: Ok(()), count },
-        Err(r) => Filled { set: Err(r), ..h },
+        Ok(count) => Filled {
+            number: numbers::ACCEPTED,
+            count,
+        },
+        Err(r) => Filled {
+            number: r.number(),
+            ..h
+        },
     }
 }
 
@@ -211,7 +217,7 @@ pub fn lay(rows: &mut [[u64; 3]; 256], from: &[[u64; 3]; 256], count: usize)
     ensures { rows.new ≡ laid_on rows.old (take count from.now) }
 {
     let list = held(from, count);
-    rows[..list.len()].copy_from_slice(list);
+    fields::copy(rows, list);
 }
 
 // ---- the largest

@@ -188,11 +188,11 @@ pub fn entry_at(
 
 // A page that is to be read or written: whether it was resident, its slot, and the head with it resident.
 #[derive(Clone, Copy)]
-struct Seat {
+pub struct Seat {
     // No Option with the slot beside it: the slot is needed in both cases.
-    there: bool,
-    slot: usize,
-    head: Head,
+    pub there: bool,
+    pub slot: usize,
+    pub head: Head,
 }
 
 // The page count, raised past a page.

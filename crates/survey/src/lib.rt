@@ -2,7 +2,7 @@
 // large is carried from record to record. The public function is total: its contract is one equation.
 #![tactic(auto)]
 
-ghost use Rattle.std.specs.Prelude.{◌≡◌, ◌+◌, ◌/◌, false, leb, Ok};
+ghost use Rattle.std.specs.Prelude.{◌≡◌, ◌+◌, ◌/◌, false, leb};
 ghost use Rattle.fields.specs.Files.{file_of};
 ghost use Rattle.scan.specs.Inside.{image_past};
 ghost use Rattle.survey.specs.Survey.{survey_of, surveyed};
@@ -20,17 +20,17 @@ pub struct Found {
     pub images: bool,
     // An id's byte lies past the clog's buffer.
     pub ids: bool,
-    // How many rows are set; refused where the statuses are of more than 256 ids.
+    // How many rows are set; the number of a refusal where the statuses are of more than 256 ids.
     pub held: Filled,
     // How the log ends: at its last byte, or at a bad record; refused as unfit where the log is not read.
     pub ending: Result<(), Refusal>,
 }
 
 fn unread(ending: Result<(), Refusal>) -> Found
-    ensures { result ≡ record { images = false; ids = false; held = record { set = Ok tt; count = 0 }; ending = ending } }
+    ensures { result ≡ record { images = false; ids = false; held = record { number = 0; count = 0 }; ending = ending } }
 {
     let held = Filled {
-        set: Ok(()),
+        number: numbers::ACCEPTED,
         count: 0,
     };
     Found {

@@ -5,7 +5,6 @@
 ghost use Rattle.std.specs.Prelude.{◌≡◌, map, ◌+◌, ◌≤◌, ◌<◌, ◌^◌, length, take, drop};
 ghost use Rattle.std.proofs.lemmas.List.Edits.{sets};
 ghost use Rattle.fields.specs.Files.{file_of};
-ghost use Rattle.fields.specs.Refusals.{number_in};
 ghost use Rattle.rows.specs.Rows.{rowed, rowed_as, set_all};
 ghost use Rattle.clog.specs.Slots.{entry_of, entries_in, loaded_status, settled_code, settled_byte, settled};
 ghost use Rattle.sweeps.specs.Sweeps.{listed};
@@ -78,11 +77,11 @@ fn note_byte(rows: &mut [[u64; 3]; 256], h: Filled, id: u64, b: u8) -> Filled
 }
 
 // Where to go on after the byte i. Once an entry was refused no other can be set: the pass ends.
-fn next_place(s: &[u8], i: usize, set: Result<(), Refusal>) -> usize
+fn next_place(s: &[u8], i: usize, number: u8) -> usize
     requires { i < length s.now }
-    ensures { result ≡ next_from s.now i (number_in set) }
+    ensures { result ≡ next_from s.now i number }
 {
-    if set.is_err() {
+    if number != numbers::ACCEPTED {
         return s.len();
     }
     next_busy(s, i + 1)
@@ -94,7 +93,7 @@ fn list_in(s: &[u8], rows: &mut [[u64; 3]; 256]) -> Filled
 {
     let n = s.len();
     let mut h = Filled {
-        set: Ok(()),
+        number: numbers::ACCEPTED,
         count: 0,
     };
     let mut i = next_busy(s, numbers::HEADER);
@@ -102,7 +101,7 @@ fn list_in(s: &[u8], rows: &mut [[u64; 3]; 256]) -> Filled
     while i < n {
         let id = (4 * (i - numbers::HEADER)) as u64;
         h = note_byte(rows, h, id, s[i]);
-        i = next_place(s, i, h.set);
+        i = next_place(s, i, h.number);
     }
     h
 }
@@ -112,14 +111,14 @@ pub fn list(clog: &[u8], len: usize, rows: &mut [[u64; 3]; 256]) -> Filled
 {
     if fields::is_unfit(numbers::CLOG_LIMIT, clog.len(), len) {
         return Filled {
-            set: Err(Refusal::Unfit),
+            number: Refusal::Unfit.number(),
             count: 0,
         };
     }
     let s = &clog[..len];
     if !fields::begins(b"AEROCLG1", s) {
         return Filled {
-            set: Ok(()),
+            number: numbers::ACCEPTED,
             count: 0,
         };
     }

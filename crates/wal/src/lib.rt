@@ -66,6 +66,7 @@ fn body_len(tag: u8) -> usize
 }
 
 // The record with that tag whose fields start at body.
+#[inline]
 fn record_of(s: &[u8], tag: u8, body: usize) -> WalRecord
     requires { (0 < tag) × (tag ≤ 5) × (body + body_of 4096 tag ≤ length s.now) }
     ensures { result ≡ shown body (record_of tag (take (body_of 4096 tag) (drop body s.now))) }

@@ -1,15 +1,17 @@
 -- `begins::begin` meets its contract: refused, or made ready and carried out. Assumes nothing.
+use mathlib.Core.Path.{refl}
+use Rattle.std.specs.Prelude.{Err}
 use Rattle.world.specs.Calls.{Begin}
 use Rattle.lent.specs.Lent.{lent}
 use Rattle.acts.proofs.Laws.{accepted-left, refused-left}
 use Rattle.begins.proofs.begin.Goals as goal
 
-pub returns-in_err-m : goal.returns-in_err-m
-returns-in_err-m c =
+pub returns-in-Err : goal.returns-in-Err
+returns-in-Err c =
     let a = c.args in
-    refused-left 4096 (Begin a.id) (lent a.h a.rows.now a.resident.now a.touched.now) a.log.now a.db.now a.clog.now a.frames.now c.in_err-m.field-0.0 c.in_err-m.ensures _ c.from_residual.ensures
+    refused-left 4096 (Begin a.id) (lent a.h a.rows.now a.resident.now a.touched.now) a.log.now a.db.now a.clog.now a.frames.now c.in-Err.r c.in-Err.ensures (Err c.in-Err.r) (refl, refl)
 
-pub returns : goal.returns
-returns c =
+pub returns-in-Ok : goal.returns-in-Ok
+returns-in-Ok c =
     let a = c.args in
-    accepted-left 4096 (Begin a.id) (lent a.h a.rows.now a.resident.now a.touched.now) a.log.now a.db.now a.clog.now a.frames.now _ c.in_ok-m.ensures _ c.carry_out.ensures
+    accepted-left 4096 (Begin a.id) (lent a.h a.rows.now a.resident.now a.touched.now) a.log.now a.db.now a.clog.now a.frames.now _ c.in-Ok.ensures _ c.carry_out.ensures

@@ -7,7 +7,6 @@ use Rattle.fields.specs.Refusals.{number_of, number_in}
 use Rattle.fields.proofs.AnswerLaws.{number-positive, handed-on}
 use Rattle.std.specs.Prelude.{Err}
 use Rattle.rows.specs.Rows.{rowed}
-use Rattle.rows.proofs.Answers.{refused-number, set-number}
 use Rattle.world.specs.World.{files_of}
 use Rattle.keyon.specs.Inside.{tested_of}
 use Rattle.keyon.proofs.Tests.{test-unfit, test-format, test-room, test-full, test-ending, test-passed}
@@ -39,13 +38,13 @@ returns-in_err-check_room c =
     (test-room 4096 (files_of a.lens a.log.now a.db.now a.clog.now) a.frames.now k (sym c.in_ok-check_format.ensures) s.result a.logged.now s.new.rows s.ensures
     (tested_of (Err r)) (number_of r) s.new.rows a.full.now refl c.in_err-check_room.ensures (met r))
 
-pub returns-then-is_err : goal.returns-then-is_err
-returns-then-is_err c =
+pub returns-then-t-ne-ACCEPTED : goal.returns-then-t-ne-ACCEPTED
+returns-then-t-ne-ACCEPTED c =
     let a = c.args in
     let k = sym c.buffers_bad.ensures ∙ c.if-buffers_bad.false in
     let s = c.survey-s in
     test-full 4096 (files_of a.lens a.log.now a.db.now a.clog.now) a.frames.now k (sym c.in_ok-check_format.ensures) s.result a.logged.now s.new.rows s.ensures (sym c.in_ok-check_room.ensures)
-    a.full.now (rowed c.join-t.result c.join-t.new.full) c.join-t.ensures (tested_of (Err TableFull)) s.new.rows c.join-t.new.full refl (refused-number _ (sym c.is_err.ensures.value ∙ c.if-is_err.true))
+    a.full.now (rowed c.join-t.result c.join-t.new.full) c.join-t.ensures (tested_of (Err TableFull)) s.new.rows c.join-t.new.full refl c.if-t-ne-ACCEPTED.true
 
 pub returns-in_err-s : goal.returns-in_err-s
 returns-in_err-s c =
@@ -56,7 +55,7 @@ returns-in_err-s c =
     let n = ap number_in c.in_err-s.was in
     rw (handed-on _ _ c.from_residual-in_err-s.ensures)
     (test-ending 4096 (files_of a.lens a.log.now a.db.now a.clog.now) a.frames.now k (sym c.in_ok-check_format.ensures) s.result a.logged.now s.new.rows s.ensures (sym c.in_ok-check_room.ensures)
-    a.full.now (rowed c.join-t.result c.join-t.new.full) c.join-t.ensures (set-number _ (sym c.is_err.ensures.value ∙ c.if-is_err.false)) (tested_of (Err r)) s.new.rows c.join-t.new.full (rw n) (λ z. met r (sym n ∙ z)))
+    a.full.now (rowed c.join-t.result c.join-t.new.full) c.join-t.ensures c.if-t-ne-ACCEPTED.false (tested_of (Err r)) s.new.rows c.join-t.new.full (rw n) (λ z. met r (sym n ∙ z)))
 
 pub returns : goal.returns
 returns c =
@@ -64,4 +63,4 @@ returns c =
     let k = sym c.buffers_bad.ensures ∙ c.if-buffers_bad.false in
     let s = c.survey-s in
     test-passed 4096 (files_of a.lens a.log.now a.db.now a.clog.now) a.frames.now k (sym c.in_ok-check_format.ensures) s.result a.logged.now s.new.rows s.ensures (sym c.in_ok-check_room.ensures)
-    a.full.now (rowed c.join-t.result c.join-t.new.full) c.join-t.ensures (set-number _ (sym c.is_err.ensures.value ∙ c.if-is_err.false)) (ap number_in c.in_ok-s.was)
+    a.full.now (rowed c.join-t.result c.join-t.new.full) c.join-t.ensures c.if-t-ne-ACCEPTED.false (ap number_in c.in_ok-s.was)

@@ -14,7 +14,7 @@ use Rattle.sweeps.proofs.list.Goals as goal
 pub returns-then-is_unfit : goal.returns-then-is_unfit
 returns-then-is_unfit c =
     let a = c.args in
-    listed-unfit (file_of a.clog.now a.len) a.rows.now (sym c.is_unfit.ensures ∙ c.if-is_unfit.true)
+    rw c.number.ensures (listed-unfit (file_of a.clog.now a.len) a.rows.now (sym c.is_unfit.ensures ∙ c.if-is_unfit.true))
 
 pub slice_bounds-s-end : goal.slice_bounds-s-end
 slice_bounds-s-end c =
