@@ -109,7 +109,7 @@ extern "C" {
  * What a store remembers stands in a struct of the caller, in the open. nyotmelang_pager_open fills it; the caller hands its parts to each call with the same four
  * buffers, by NYOTMELANG_STORE(&store) or one by one. The lengths of the files after an accepted call are the head's first three.
  *
- * Stack, measured on runs of one build and not proved: no nyotmelang_pager_ function used more than 15,784 bytes; nyotmelang_clog_load and nyotmelang_second_load
+ * Stack, measured on runs of one build and not proved: no nyotmelang_pager_ function used more than 13,784 bytes; nyotmelang_clog_load and nyotmelang_second_load
  * used at most 30,872 each.
  */
 

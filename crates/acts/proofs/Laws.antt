@@ -7,7 +7,7 @@ use mathlib.Core.List.{List, [], ◌∷◌, ◌++◌, map}
 use mathlib.Core.Bool.{Bool, true, false, cond}
 use lib.ListN.{length, take}
 use lib.Dec.{ltb, leb, eqb}
-use Rattle.std.specs.Prelude.{Option, Result, Err}
+use Rattle.std.specs.Prelude.{Option, Result, Ok, Err}
 use Rattle.std.specs.Result.{IsErr, IsErrAnd}
 use Rattle.fields.specs.declared.refusal.Refusal.{Refusal}
 use Rattle.fields.specs.Refusals.{number_of}
@@ -32,8 +32,10 @@ use Rattle.world.specs.Calls.{Call}
 use Rattle.world.specs.Refusals.{front_no, bad_buffers, refuses}
 use Rattle.world.specs.Run.{done, decided}
 use Rattle.stores.specs.declared.Telling.{Telling}
+use Rattle.stores.specs.declared.Plan.{Plan}
+use Rattle.picks.specs.declared.Picked.{Picked}
 use Rattle.stores.specs.Plans.{steps_of, meant}
-use Rattle.stores.specs.Room.{cut, cut_of}
+use Rattle.stores.specs.Room.{Carried, cut, cut_of}
 use Rattle.stores.specs.Told.{first_told, told_at, told_in}
 use Rattle.stores.proofs.RoomLaws.{length-meant}
 use Rattle.stores.proofs.TellLaws.{told-any}
@@ -43,14 +45,16 @@ use Rattle.form.specs.Store.{world_of, laid_store, Outcome, outcome, called, cal
 use Rattle.lent.specs.declared.Head.{Head}
 use Rattle.lent.specs.Lent.{Lent, lent, slot_in, store_of, odd_head, odd, held_of, own_of, laid_lent, replied, Left, leaving, left_of, odd_no, unless_odd, called_lent}
 use Rattle.lent.proofs.Laws.{Fit, head-back, rows_same, few-entries, few-resident}
-use Rattle.ready.specs.Ready.{Prepared, prepared, Ready, readied, idle, with_lens, carried_out, cut_at, Counted, counted, called_to, counted_for, ToldCall, told_by, told_for, told_of}
+use Rattle.ready.specs.declared.Ready.{Ready}
+use Rattle.ready.specs.declared.Numbered.{Numbered}
+use Rattle.ready.specs.Ready.{Prepared, prepared, readied, framed, idle, with_lens, carried_out, cut_as, cut_at, Counted, counted_as, counted, called_to, counted_for, ToldCall, told_as, told_by, told_for, told_of}
 use Rattle.ready.specs.Inside.{remembered, ready_for}
 use Rattle.ready.proofs.Prepared.{none-carried, idle-is, ready-front, ready-called, ready-cut, ready-count}
 use Rattle.ready.proofs.ToldLaws.{told-done}
 use Rattle.acts.specs.declared.Change.{Change}
 use Rattle.acts.specs.declared.Change.TheVariants.{Same, Set, Touch}
-use Rattle.acts.specs.declared.Made as code
-use Rattle.acts.specs.Made.{Made, rows_after, touched_after, resident_after, counted_head, lens_head, after_in, ready_in, bare_made, made_of, Readied, readied_as, made_in, lent_with, left_by, cut_made, counted_made, told_made}
+use Rattle.acts.specs.declared.Made.{Made}
+use Rattle.acts.specs.Made.{rows_after, touched_after, resident_after, counted_head, lens_head, after_in, ready_in, bare_made, plain_made, meta_made, accepted, made_of, Readied, readied_as, made_in, lent_with, left_by, cut_made, counted_made, told_made}
 use Rattle.acts.specs.Partly.{cut_lent, counted_lent, told_lent}
 use Rattle.acts.specs.Inside.{ready_lent}
 
@@ -159,9 +163,9 @@ module _ (P : ℕ) (c : Call) (s : Lent) (log db clog frames : List ℕ) where
     ready-fine : odd s ≡ false → readied P r log db clog frames ≡ ready_for P c (store_of s) log db clog frames
     ready-fine e = made-ready ∙ ap (λ (x : Readied). x.ready) (is-fine e)
 
-    cut_as : (k : ℕ) → cut_made P k m log db clog frames ≡ cut_at P k (readied P r log db clog frames) log db clog
+    cut-ready : (k : ℕ) → cut_made P k m log db clog frames ≡ cut_at P k (readied P r log db clog frames) log db clog
     unfolding cut_made cut_at readied ready_in store_of after_in counted_head
-    cut_as k = refl
+    cut-ready k = refl
 
     none-cut : (k n : ℕ) → cut_at P k (prepared n [] (store_of s) frames) log db clog ≡ record { number = n; files = files_of s.head.lens log db clog }
     unfolding cut_at store_of
@@ -169,7 +173,7 @@ module _ (P : ℕ) (c : Call) (s : Lent) (log db clog frames : List ℕ) where
 
     pub cut-called : (k : ℕ) → cut_made P k m log db clog frames ≡ cut_lent P k c s log db clog frames
     unfolding cut_lent
-    cut-called k = cut_as k ∙ go (odd s) refl
+    cut-called k = cut-ready k ∙ go (odd s) refl
       where
         go : (b : Bool) → odd s ≡ b →
             cut_at P k (readied P r log db clog frames) log db clog ≡
@@ -193,9 +197,9 @@ module _ (P : ℕ) (c : Call) (s : Lent) (log db clog frames : List ℕ) where
         go true e = ap count_of (ready-odd e)
         go false e = ap count_of (ready-fine e) ∙ ready-count P c (store_of s) log db clog frames (ready_for P c (store_of s) log db clog frames) refl
 
-    told-as : (k : ℕ) → told_made P k m ≡ told_of P k r
+    told-ready : (k : ℕ) → told_made P k m ≡ told_of P k r
     unfolding told_made told_of ready_in store_of after_in counted_head
-    told-as k = refl
+    told-ready k = refl
 
     abbrev values_in : ℕ → Prepared → List ℕ
     values_in k p = cond (ltb 16777216 p.store.lens.log) [] (told_at k (tell_all P p.steps (files_of p.store.lens log db clog)))
@@ -220,14 +224,38 @@ module _ (P : ℕ) (c : Call) (s : Lent) (log db clog frames : List ℕ) where
       where
         go : (b : Bool) → odd s ≡ b → told_by t ≡ cond b (record { number = odd_no P s log db clog frames; values = [] }) (told_for P k c (store_of s) log db clog frames)
         go true e =
-            q ∙ told-as k ∙ plan-told k big ∙ ap (call_of k) (ready-odd e)
+            q ∙ told-ready k ∙ plan-told k big ∙ ap (call_of k) (ready-odd e)
             ∙ ap (λ (vs : List ℕ). record { number = odd_no P s log db clog frames; values = vs }) (none-values k (odd_no P s log db clog frames))
-        go false e = told-done P big k c (store_of s) log db clog frames r t (ready-fine e) (q ∙ told-as k)
+        go false e = told-done P big k c (store_of s) log db clog frames r t (ready-fine e) (q ∙ told-ready k)
+
+-- ---- a call that is not refused has number 0 as it is made ready
+
+pub bare-accepted : (m : Made) (x : Change) (h : Head) → m ≡ bare_made 0 x h → accepted m ≡ bare_made 0 x h
+unfolding bare_made
+bare-accepted m x h e = ap accepted e
+
+pub plain-accepted : (m : Made) (plan : Plan) (x : Change) (h : Head) → m ≡ plain_made plan x h → accepted m ≡ plain_made plan x h
+unfolding plain_made
+plain-accepted m plan x h e = ap accepted e
+
+pub meta-accepted : (m : Made) (plan : Plan) (back : Picked) (slot : ℕ) (x : Change) (h : Head) → m ≡ meta_made plan back slot x h → accepted m ≡ meta_made plan back slot x h
+unfolding meta_made
+meta-accepted m plan back slot x h e = ap accepted e
 
 -- ---- the ways out of making ready
 
+-- what is left, cut or told, with number 0
+abbrev none_said : Left → Left
+none_said x = leaving 0 x.store x.log x.db x.clog x.frames
+
+abbrev none_cut : Carried → Carried
+none_cut x = record { number = 0; files = x.files }
+
+abbrev told_none : ToldCall → ToldCall
+told_none x = record { number = 0; values = x.values }
+
 -- what `?` hands on
-pub handed-made : (h : Head) (a : Result code.Made Refusal) (r : Refusal) → IsErr a × IsErrAnd a (λ e. e ≡ r) → made_of h a ≡ bare_made (number_of r) Same h
+pub handed-made : (h : Head) (a : Result Made Refusal) (r : Refusal) → IsErr a × IsErrAnd a (λ e. e ≡ r) → made_of h a ≡ bare_made (number_of r) Same h
 handed-made h a r e = ap (made_of h) (handed-on a r e)
 
 module _ (P : ℕ) (c : Call) (s : Lent) (log db clog frames : List ℕ) where
@@ -238,9 +266,29 @@ module _ (P : ℕ) (c : Call) (s : Lent) (log db clog frames : List ℕ) where
 
   -- ---- what comes of a call that was made ready, and of one that was refused, is the call
 
-  pub accepted-left : (m : Made) → made_in P m s.rows s.resident s.touched log db clog frames ≡ ready_lent P c s log db clog frames → (x : Left) →
-      x ≡ left_by P (made_in P m s.rows s.resident s.touched log db clog frames) log db clog → x ≡ called_lent P c s log db clog frames
-  accepted-left m is x e = e ∙ ap (λ (y : Readied). left_by P y log db clog) is ∙ left-called P c s log db clog frames
+  -- of one that was not refused it has number 0, whatever its value says
+  module _ (m : Made) (is : made_in P (accepted m) s.rows s.resident s.touched log db clog frames ≡ ready_lent P c s log db clog frames) where
+    left-accepted : none_said (left_by P (made_in P m s.rows s.resident s.touched log db clog frames) log db clog) ≡
+        left_by P (made_in P (accepted m) s.rows s.resident s.touched log db clog frames) log db clog
+    unfolding left_by made_in carried_out readied framed ready_in after_in counted_head store_of
+    left-accepted = refl
+
+    pub accepted-left : (x : Left) → x ≡ left_by P (made_in P m s.rows s.resident s.touched log db clog frames) log db clog → none_said x ≡ called_lent P c s log db clog frames
+    accepted-left x e = ap none_said e ∙ left-accepted ∙ ap (λ (y : Readied). left_by P y log db clog) is ∙ left-called P c s log db clog frames
+
+    pub accepted-cut : (k : ℕ) (x : Numbered Lens) (log' db' clog' : List ℕ) → cut_of (cut_as x) log' db' clog' ≡ cut_made P k m log db clog frames →
+        cut_of (cut s.head.lens (Ok x.value)) log' db' clog' ≡ cut_lent P k c s log db clog frames
+    unfolding cut_made
+    accepted-cut k x log' db' clog' e =
+        ap none_cut e ∙ cut-called P c s log db clog frames (accepted m) is k
+
+    pub accepted-count : (x : Numbered ℕ) → counted_as x ≡ counted_made m → counted (Ok x.value) ≡ counted_lent P c s log db clog frames
+    unfolding counted_made
+    accepted-count x e = ap (λ (y : Counted). counted (Ok y.stores)) e ∙ count-called P c s log db clog frames (accepted m) is
+
+    pub accepted-told : 36 ≤ P → (k : ℕ) (x : Numbered (Option Telling)) → told_as x ≡ told_made P k m → told_by (Ok x.value) ≡ told_lent P k c s log db clog frames
+    unfolding told_as told_by told_made
+    accepted-told big k x e = told-called P c s log db clog frames (accepted m) is big k (Ok x.value) (ap told_none e)
 
   module _ (r : Refusal) (is : made_in P (bare_made (number_of r) Same s.head) s.rows s.resident s.touched log db clog frames ≡ ready_lent P c s log db clog frames) where
     abbrev no : Made

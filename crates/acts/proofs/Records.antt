@@ -5,7 +5,7 @@ use mathlib.Core.Path.{◌≡◌, refl, sym, ap, ◌∙◌}
 use mathlib.Core.List.{List, []}
 use mathlib.Core.Bool.{cond}
 use lib.ListN.{length, drop}
-use Rattle.std.specs.Prelude.{Option, Some, None, Result, Ok, Err}
+use Rattle.std.specs.Prelude.{Result, Ok, Err}
 use Rattle.std.specs.Result.{result_unwrap_or}
 use Rattle.fields.specs.declared.refusal.Refusal.{Refusal}
 use Rattle.fields.specs.Refusals.{number_in}
@@ -16,16 +16,16 @@ use Rattle.frames.specs.Copies.{with_frame}
 use Rattle.seats.specs.Seats.{seated_in, marked_in}
 use Rattle.world.specs.declared.Lens.{Lens}
 use Rattle.world.specs.World.{Files, files_of, lens_of}
-use Rattle.meta.specs.declared.Counters.{Counters}
 use Rattle.stores.specs.Plans.{meant}
 use Rattle.stores.specs.Room.{Carried, cut, cut_of, carried}
 use Rattle.lent.specs.declared.Head.{Head}
 use Rattle.lent.specs.Lent.{Lent, lent, store_of, leaving}
-use Rattle.ready.specs.Ready.{has_slot, slot_in, Ready, readied, meta_of, refill, framed, with_lens, carried_out}
-use Rattle.ready.specs.Inside.{laid_meta}
+use Rattle.ready.specs.declared.Ready.{Ready}
+use Rattle.ready.specs.declared.Numbered.{Numbered}
+use Rattle.ready.specs.Ready.{readied, meta_of, refill, framed, with_lens, carried_out, cut_as}
 use Rattle.ready.proofs.Prepared.{cut-files, cut-lens, all-is}
-use Rattle.acts.specs.declared.Made as code
-use Rattle.acts.specs.Made.{Made, accepted, rows_after, touched_after, resident_after, counted_head, lens_head, after_in, ready_in, made_in, lent_with, left_by, cut_made}
+use Rattle.acts.specs.declared.Made.{Made}
+use Rattle.acts.specs.Made.{rows_after, touched_after, resident_after, counted_head, lens_head, after_in, ready_in, made_in, lent_with, left_by, cut_made}
 use Rattle.acts.specs.Inside.{FilesLeft, files_left, files_made}
 
 -- ---- an entry that is set where n rows were held: the number and the count of its answer
@@ -36,34 +36,29 @@ set-parts n (Err q) rows x e = e
 
 -- ---- the stores and the frames
 
-laid-is : (P : ℕ) (x : Option ℕ) (c : Counters) (frames : List ℕ) →
-    laid_meta P x c frames ≡ cond (has_slot x) (with_frame P frames (slot_in x) (meta_of P c)) frames
-laid-is P (Some slot) c frames = refl
-laid-is P None c frames = refl
-
-module _ (P : ℕ) (m : code.Made) (log db clog frames log' db' clog' : List ℕ) where
+module _ (P : ℕ) (m : Made) (log db clog frames log' db' clog' : List ℕ) where
   -- some call made ready with these stores
   abbrev r : Ready
-  r = ready_in P (length frames) (accepted m) [] [] []
+  r = ready_in P (length frames) m [] [] []
 
   pub cut_out : (k : ℕ) (a : Result Lens Refusal) →
       cut_of (cut m.head.lens a) log' db' clog' ≡ carried P (drop 0 (meant P frames m.plan)) (k - 0) (files_of m.head.lens log db clog) →
-      cut_of (cut m.head.lens (Ok (result_unwrap_or a m.head.lens))) log' db' clog' ≡ cut_made P k (accepted m) log db clog frames
+      cut_of (cut_as (record { number = m.number; value = result_unwrap_or a m.head.lens })) log' db' clog' ≡ cut_made P k m log db clog frames
   unfolding cut_made readied ready_in store_of after_in counted_head
   cut_out k a e =
-      ap (λ (x : Lens). cut_of (cut m.head.lens (Ok x)) log' db' clog') (sym (cut-lens m.head.lens a))
-      ∙ ap (λ (x : Files). record { number = 0; files = x }) (cut-files P r frames log db clog (cut m.head.lens a) log' db' clog' k e)
+      ap (λ (x : Lens). cut_of (cut_as (record { number = m.number; value = x })) log' db' clog') (sym (cut-lens m.head.lens a))
+      ∙ ap (λ (x : Files). record { number = m.number; files = x }) (cut-files P r frames log db clog (cut m.head.lens a) log' db' clog' k e)
 
-  pub files-out : (end : Lens) (a b : List ℕ) → cut_of (cut m.head.lens (Ok end)) log' db' clog' ≡ cut_made P 133 (accepted m) log db clog frames →
-      a ≡ refill P (file_of db' end.db) m.back frames → b ≡ laid_meta P m.meta m.plan.meta a →
-      files_left end log' db' clog' b ≡ files_made P (accepted m) log db clog frames
+  pub files-out : (end : Numbered Lens) (a b : List ℕ) → cut_of (cut_as end) log' db' clog' ≡ cut_made P 133 m log db clog frames →
+      a ≡ refill P (file_of db' end.value.db) m.back frames → b ≡ cond m.meta (with_frame P a m.slot (meta_of P m.plan.meta)) a →
+      files_left end.value log' db' clog' b ≡ files_made P m log db clog frames
   unfolding files_made cut_made readied ready_in store_of after_in counted_head
   files-out end a b e f g =
       let all = ap (λ (x : Carried). x.files) e ∙ all-is P r frames 133 log db clog (omega arith) in
-      let h : b ≡ cond (has_slot m.meta) (with_frame P (refill P (file_of db' end.db) m.back frames) (slot_in m.meta) (meta_of P m.plan.meta)) (refill P (file_of db' end.db) m.back frames) =
-      g ∙ ap (laid_meta P m.meta m.plan.meta) f ∙ laid-is P m.meta m.plan.meta (refill P (file_of db' end.db) m.back frames) in
-      ap (λ (x : List ℕ). files_left end log' db' clog' x) h
-      ∙ ap (λ (x : Files). record { files = x; frames = cond (has_slot m.meta) (with_frame P (refill P x.db m.back frames) (slot_in m.meta) (meta_of P m.plan.meta)) (refill P x.db m.back frames) }) all
+      let h : b ≡ cond m.meta (with_frame P (refill P (file_of db' end.value.db) m.back frames) m.slot (meta_of P m.plan.meta)) (refill P (file_of db' end.value.db) m.back frames) =
+      g ∙ rw f in
+      ap (λ (x : List ℕ). files_left end.value log' db' clog' x) h
+      ∙ ap (λ (x : Files). record { files = x; frames = cond m.meta (with_frame P (refill P x.db m.back frames) m.slot (meta_of P m.plan.meta)) (refill P x.db m.back frames) }) all
 
 -- ---- the arrays
 

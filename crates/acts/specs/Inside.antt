@@ -9,7 +9,8 @@ use Rattle.world.specs.Run.{decided}
 use Rattle.lent.specs.Lent.{Lent, store_of, unless_odd, laid_lent}
 use Rattle.ready.specs.Ready.{prepared, meta_of, refill, files_to}
 use Rattle.ready.specs.Inside.{ready_for}
-use Rattle.acts.specs.Made.{Made, Readied, readied_as}
+use Rattle.acts.specs.declared.Made.{Made}
+use Rattle.acts.specs.Made.{Readied, readied_as}
 
 -- ---- the files and the frame buffer after a call's stores
 

@@ -18,25 +18,11 @@ use Rattle.stores.specs.Told.{told_in}
 use Rattle.plans.specs.Planned.{plan_of, no_counters}
 use Rattle.lent.specs.declared.Head.{Head}
 use Rattle.lent.specs.Lent.{Lent, lent, store_of, Left, leaving}
-use Rattle.ready.specs.Ready.{has_slot, slot_in, Ready, Prepared, readied, files_to, carried_out, Counted, ToldCall}
+use Rattle.ready.specs.declared.Ready.{Ready}
+use Rattle.ready.specs.Ready.{Prepared, readied, files_to, carried_out, Counted, ToldCall}
 use Rattle.acts.specs.declared.Change.{Change}
 use Rattle.acts.specs.declared.Change.TheVariants.{Same, Set, Touch}
-use Rattle.acts.specs.declared.Made as code
-
--- the number; the stores; the pages that get their bytes back; whether page 0's frame is written, and its slot; the change; the head
-pub record Made : Type 0 where
-  pub number : ℕ
-  pub plan : Plan
-  pub back : Picked
-  pub meta : Bool
-  pub slot : ℕ
-  pub change : Change
-  pub head : Head
-
--- what the code makes ready is an accepted call
-abbrev pub accepted : code.Made → Made
-accepted m =
-    record { number = 0; plan = m.plan; back = m.back; meta = has_slot m.meta; slot = slot_in m.meta; change = m.change; head = m.head }
+use Rattle.acts.specs.declared.Made.{Made}
 
 -- ---- what is changed in the arrays
 
@@ -128,8 +114,12 @@ plain_made plan x h = record { number = 0; plan = plan; back = picked_of 64 []; 
 unfoldable pub meta_made : Plan → Picked → ℕ → Change → Head → Made
 meta_made plan back slot x h = record { number = 0; plan = plan; back = back; meta = true; slot = slot; change = x; head = h }
 
+-- one that was not refused has number 0, whatever its value says
+abbrev pub accepted : Made → Made
+accepted m = record { number = 0; plan = m.plan; back = m.back; meta = m.meta; slot = m.slot; change = m.change; head = m.head }
+
 -- what making a call on a store with the head h ready answers
-abbrev pub made_of : Head → Result code.Made Refusal → Made
+abbrev pub made_of : Head → Result Made Refusal → Made
 made_of h (Ok m) = accepted m
 made_of h (Err r) = bare_made (number_of r) Same h
 

@@ -1,25 +1,26 @@
 // A call with stores on a store that stands where it is lent, made ready and then carried out. Making ready changes nothing: it gives a small value, the call's
 // stores as a plan, what it changes in the lent arrays, and the head after it; or it refuses the call, and nothing is left to do. Then the call is carried out, or
-// cut at a store as if power went there, or its stores are counted or told. What is here serves every such call. Every public function is total: its contract is
-// one equation.
+// cut at a store as if power went there, or its stores are counted or told. What is here serves every such call, and of any number, as in ready. Every public
+// function is total: its contract is one equation.
 #![tactic(auto)]
 
-ghost use Rattle.std.specs.Prelude.{◌≡◌, Ok};
+ghost use Rattle.std.specs.Prelude.{◌≡◌, cond, ◌*◌};
+ghost use Rattle.std.proofs.lemmas.List.Edits.{sets};
 ghost use Rattle.fields.specs.Files.{file_of};
 ghost use Rattle.fields.specs.Refusals.{number_in};
 ghost use Rattle.rows.specs.Rows.{set_row, rowed_in};
 ghost use Rattle.seats.specs.Seats.{seated_by, marked_by};
-ghost use Rattle.stores.specs.Room.{cut, cut_of};
+ghost use Rattle.stores.specs.Room.{cut_of};
 ghost use Rattle.lent.specs.Lent.{lent, leaving};
-ghost use Rattle.ready.specs.Ready.{has_slot, refill, counted, told_by};
-ghost use Rattle.ready.specs.Inside.{laid_meta};
-ghost use Rattle.acts.specs.Made.{rows_after, touched_after, resident_after, after_in, bare_made, plain_made, meta_made, accepted, made_in, left_by, cut_made, counted_made, told_made};
+ghost use Rattle.ready.specs.Ready.{meta_of, refill, cut_as, counted_as, told_as};
+ghost use Rattle.acts.specs.Made.{rows_after, touched_after, resident_after, after_in, bare_made, plain_made, meta_made, made_in, left_by, cut_made, counted_made, told_made};
 ghost use Rattle.acts.specs.Inside.{files_left, files_made};
 
 use fields::{Refusal, TransactionId, numbers};
 use lent::Head;
 use meta::Counters;
 use picks::Picked;
+use ready::Numbered;
 use stores::{Plan, Telling};
 use table::Status;
 use world::Lens;
@@ -35,45 +36,60 @@ pub enum Change {
     Touch(u32),
 }
 
-// What an accepted call would do: its stores; the pages whose frames get the file's bytes back; the slot of page 0's frame, where page 0 becomes resident and its
-// frame gets the plan's counters; the change; the head after it but for the lengths of the files and the counts of what is changed.
+// What a call would do: its number; its stores; the pages whose frames get the file's bytes back; whether page 0 becomes resident and its frame gets the plan's
+// counters, and the slot of that frame; the change; the head after it but for the lengths of the files and the counts of what is changed. A refused call has no
+// stores, changes nothing and has the old head.
 #[derive(Clone, Copy)]
 pub struct Made {
+    pub number: u8,
     pub plan: Plan,
     pub back: Picked,
-    pub meta: Option<usize>,
+    pub meta: bool,
+    pub slot: usize,
     pub change: Change,
     pub head: Head,
 }
 
-// A call that has no stores: there is nothing to do but for a change.
-pub fn bare(change: Change, head: Head) -> Made
-    ensures { accepted result ≡ bare_made 0 change head }
-{
-    plain_call(plans::no_plan(), change, head)
-}
-
-// A call that leaves the frames as they are.
-pub fn plain_call(plan: Plan, change: Change, head: Head) -> Made
-    ensures { accepted result ≡ plain_made plan change head }
+// A call that has no stores: refused, or with nothing to do but for a change.
+pub fn bare(number: u8, change: Change, head: Head) -> Made
+    ensures { result ≡ bare_made number change head }
 {
     Made {
-        plan,
+        number,
+        plan: plans::no_plan(),
         back: picks::none(),
-        meta: None,
+        meta: false,
+        slot: 0,
         change,
         head,
     }
 }
 
-// A call that gives picked pages the file's bytes back, and writes page 0's frame, which has this slot.
-pub fn meta_call(plan: Plan, back: Picked, slot: usize, change: Change, head: Head) -> Made
-    ensures { accepted result ≡ meta_made plan back slot change head }
+// An accepted call that leaves the frames as they are.
+pub fn plain_call(plan: Plan, change: Change, head: Head) -> Made
+    ensures { result ≡ plain_made plan change head }
 {
     Made {
+        number: numbers::ACCEPTED,
+        plan,
+        back: picks::none(),
+        meta: false,
+        slot: 0,
+        change,
+        head,
+    }
+}
+
+// An accepted call that gives picked pages the file's bytes back, and writes page 0's frame, which has this slot.
+pub fn meta_call(plan: Plan, back: Picked, slot: usize, change: Change, head: Head) -> Made
+    ensures { result ≡ meta_made plan back slot change head }
+{
+    Made {
+        number: numbers::ACCEPTED,
         plan,
         back,
-        meta: Some(slot),
+        meta: true,
+        slot,
         change,
         head,
     }
@@ -98,14 +114,13 @@ fn give_back(x: Picked, db: &[u8], len: usize, frames: &mut [u8])
     }
 }
 
-// The counters into a frame, where there is one to write. Whether the slot lies past the buffer's end is tested before its place is worked out, which could
-// overflow.
-fn lay_meta(frames: &mut [u8], meta: Option<usize>, m: Counters)
-    ensures { frames.new ≡ laid_meta 4096 meta m frames.old }
+// The counters into a frame. Whether the slot lies past the buffer's end is tested before its place is worked out, which could overflow.
+fn lay_meta(frames: &mut [u8], meta: bool, slot: usize, m: Counters)
+    ensures { frames.new ≡ cond meta (sets frames.old (slot * 4096) (meta_of 4096 m)) frames.old }
 {
-    let Some(slot) = meta else {
+    if !meta {
         return;
-    };
+    }
     if frames.len() / numbers::PAGE_SIZE < slot {
         return;
     }
@@ -114,11 +129,11 @@ fn lay_meta(frames: &mut [u8], meta: Option<usize>, m: Counters)
 
 // The stores first, while the frames are as they were; then the frames, from the file that they leave.
 fn carry_files(m: Made, log: &mut [u8], db: &mut [u8], clog: &mut [u8], frames: &mut [u8]) -> Lens
-    ensures { files_left result log.new db.new clog.new frames.new ≡ files_made 4096 (accepted m) log.old db.old clog.old frames.old }
+    ensures { files_left result log.new db.new clog.new frames.new ≡ files_made 4096 m log.old db.old clog.old frames.old }
 {
-    let end = cut_at(m, MOST, log, db, clog, &frames[..]);
+    let end = cut_at(m, MOST, log, db, clog, &frames[..]).value;
     give_back(m.back, &db[..], end.db, frames);
-    lay_meta(frames, m.meta, m.plan.meta);
+    lay_meta(frames, m.meta, m.slot, m.plan.meta);
     end
 }
 
@@ -147,13 +162,14 @@ fn change_resident(
     resident: &mut [u32; 64],
     n: usize,
     size: usize,
-    meta: Option<usize>,
+    meta: bool,
 ) -> Result<usize, Refusal>
-    ensures { seated_by n result resident.new ≡ resident_after 4096 size resident.old n (has_slot meta) }
+    ensures { seated_by n result resident.new ≡ resident_after 4096 size resident.old n meta }
 {
-    match meta {
-        Some(_) => seats::seat(resident, n, size, 0),
-        None => Ok(n),
+    if meta {
+        seats::seat(resident, n, size, 0)
+    } else {
+        Ok(n)
     }
 }
 
@@ -165,7 +181,7 @@ fn change_arrays(
     resident: &mut [u32; 64],
     touched: &mut [u64; 64],
 ) -> Head
-    ensures { lent result rows.new resident.new touched.new ≡ after_in 4096 size (accepted m) rows.old resident.old touched.old }
+    ensures { lent result rows.new resident.new touched.new ≡ after_in 4096 size m rows.old resident.old touched.old }
 {
     let head = m.head;
     let t = change_rows(rows, head.entries, m.change);
@@ -190,13 +206,17 @@ pub fn carry_out(
     db: &mut [u8],
     clog: &mut [u8],
     frames: &mut [u8],
-) -> Head
-    ensures { leaving 0 (lent result rows.new resident.new touched.new) log.new db.new clog.new frames.new ≡ left_by 4096 (made_in 4096 (accepted m) rows.old resident.old touched.old log.old db.old clog.old frames.old) log.old db.old clog.old }
+) -> Numbered<Head>
+    ensures { leaving result.number (lent result.value rows.new resident.new touched.new) log.new db.new clog.new frames.new ≡ left_by 4096 (made_in 4096 m rows.old resident.old touched.old log.old db.old clog.old frames.old) log.old db.old clog.old }
 {
     let size = frames.len();
     let end = carry_files(m, log, db, clog, frames);
     let after = change_arrays(m, size, rows, resident, touched);
-    Head { lens: end, ..after }
+    let value = Head { lens: end, ..after };
+    Numbered {
+        number: m.number,
+        value,
+    }
 }
 
 // As if power went after the first k stores: what memory would hold is gone, so the files alone are left. Where stores are refused, the files stay.
@@ -207,22 +227,34 @@ pub fn cut_at(
     db: &mut [u8],
     clog: &mut [u8],
     frames: &[u8],
-) -> Lens
-    ensures { cut_of (cut m.head.lens (Ok result)) log.new db.new clog.new ≡ cut_made 4096 k (accepted m) log.old db.old clog.old frames.now }
+) -> Numbered<Lens>
+    ensures { cut_of (cut_as result) log.new db.new clog.new ≡ cut_made 4096 k m log.old db.old clog.old frames.now }
 {
     let lens = m.head.lens;
-    stores::carry_on(m.plan, 0, k, lens, log, db, clog, frames).unwrap_or(lens)
+    let value = stores::carry_on(m.plan, 0, k, lens, log, db, clog, frames).unwrap_or(lens);
+    Numbered {
+        number: m.number,
+        value,
+    }
 }
 
-pub fn count_of(m: Made) -> usize
-    ensures { counted (Ok result) ≡ counted_made (accepted m) }
+pub fn count_of(m: Made) -> Numbered<usize>
+    ensures { counted_as result ≡ counted_made m }
 {
-    stores::count(m.plan)
+    let value = stores::count(m.plan);
+    Numbered {
+        number: m.number,
+        value,
+    }
 }
 
 // The lengths are those before the call, since making ready changes none of them.
-pub fn told_at(m: Made, k: usize) -> Option<Telling>
-    ensures { told_by (Ok result) ≡ told_made 4096 k (accepted m) }
+pub fn told_at(m: Made, k: usize) -> Numbered<Option<Telling>>
+    ensures { told_as result ≡ told_made 4096 k m }
 {
-    stores::tell(m.plan, k, m.head.lens)
+    let value = stores::tell(m.plan, k, m.head.lens);
+    Numbered {
+        number: m.number,
+        value,
+    }
 }

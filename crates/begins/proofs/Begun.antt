@@ -30,7 +30,8 @@ use Rattle.ready.specs.Inside.{ready_for}
 use Rattle.calls.specs.Inside.{begun_store}
 use Rattle.calls.proofs.Begun.{begin-short, begin-7, begin-out}
 use Rattle.acts.specs.declared.Change.TheVariants.{Same, Set}
-use Rattle.acts.specs.Made.{Made, rows_after, touched_after, resident_after, counted_head, after_in, ready_in, bare_made, plain_made, made_in}
+use Rattle.acts.specs.declared.Made.{Made}
+use Rattle.acts.specs.Made.{rows_after, touched_after, resident_after, counted_head, after_in, ready_in, bare_made, plain_made, made_in}
 use Rattle.acts.specs.Inside.{ready_lent}
 use Rattle.acts.proofs.Laws.{made-no, made-out, laid-after}
 use Rattle.begins.specs.Inside.{begun_head}

@@ -33,7 +33,8 @@ use Rattle.ready.specs.Ready.{idle, plain}
 use Rattle.calls.specs.Inside.{marked_as}
 use Rattle.calls.proofs.Flushed.{flush-10, flush-in, flush-absent, flush-short, flush-out}
 use Rattle.acts.specs.declared.Change.TheVariants.{Same, Touch}
-use Rattle.acts.specs.Made.{Made, rows_after, touched_after, resident_after, counted_head, after_in, ready_in, bare_made, plain_made, made_in}
+use Rattle.acts.specs.declared.Made.{Made}
+use Rattle.acts.specs.Made.{rows_after, touched_after, resident_after, counted_head, after_in, ready_in, bare_made, plain_made, made_in}
 use Rattle.acts.specs.Inside.{ready_lent}
 use Rattle.acts.proofs.Laws.{made-no, made_none, made-out, slot_kept, laid-after}
 use Rattle.begins.specs.Inside.{marked_made}

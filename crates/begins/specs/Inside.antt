@@ -6,7 +6,8 @@ use Rattle.seats.specs.Seats.{touched_in}
 use Rattle.world.specs.Run.{decided}
 use Rattle.lent.specs.declared.Head.{Head}
 use Rattle.acts.specs.declared.Change.TheVariants.{Same, Touch}
-use Rattle.acts.specs.Made.{Made, bare_made}
+use Rattle.acts.specs.declared.Made.{Made}
+use Rattle.acts.specs.Made.{bare_made}
 
 -- a transaction in, with no page touched
 unfoldable pub begun_head : Head → TransactionId → Head

@@ -81,7 +81,7 @@ pub fn begin(
         &clog[..],
         &frames[..],
     ) {
-        Ok(m) => Ok(acts::carry_out(m, rows, resident, touched, log, db, clog, frames)),
+        Ok(m) => Ok(acts::carry_out(m, rows, resident, touched, log, db, clog, frames).value),
         Err(r) => Err(r),
     }
 }
@@ -111,7 +111,7 @@ pub fn begin_to(
         &clog[..],
         frames,
     )?;
-    Ok(acts::cut_at(m, k, log, db, clog, frames))
+    Ok(acts::cut_at(m, k, log, db, clog, frames).value)
 }
 
 pub fn begin_count(
@@ -128,7 +128,7 @@ pub fn begin_count(
     ensures { counted result ≡ counted_lent 4096 (Begin id) (lent h rows.now resident.now touched.now) log.now db.now clog.now frames.now }
 {
     let m = ready_begin(h, rows, resident, touched, id, log, db, clog, frames)?;
-    Ok(acts::count_of(m))
+    Ok(acts::count_of(m).value)
 }
 
 pub fn begin_told(
@@ -146,7 +146,7 @@ pub fn begin_told(
     ensures { told_by result ≡ told_lent 4096 k (Begin id) (lent h rows.now resident.now touched.now) log.now db.now clog.now frames.now }
 {
     let m = ready_begin(h, rows, resident, touched, id, log, db, clog, frames)?;
-    Ok(acts::told_at(m, k))
+    Ok(acts::told_at(m, k).value)
 }
 
 // ---- flush
@@ -156,7 +156,7 @@ fn marked(h: Head, touched: &[u64; 64], page: u32) -> Result<Made, Refusal>
     ensures { made_of h result ≡ marked_made h touched.now page }
 {
     seats::check_mark(touched, h.touched, page)?;
-    Ok(acts::bare(Change::Touch(page), h))
+    Ok(acts::bare(numbers::ACCEPTED, Change::Touch(page), h))
 }
 
 fn ready_flush(
@@ -180,7 +180,7 @@ fn ready_flush(
         return marked(h, touched, page);
     }
     let Some(slot) = seats::find(resident, h.resident, page) else {
-        return Ok(acts::bare(Change::Same, h));
+        return Ok(acts::bare(numbers::ACCEPTED, Change::Same, h));
     };
     let plan = plans::flush_plan(page, slot);
     stores::check_room(plan, h.lens, log, db, clog, frames)?;
@@ -212,7 +212,7 @@ pub fn flush(
         &clog[..],
         &frames[..],
     ) {
-        Ok(m) => Ok(acts::carry_out(m, rows, resident, touched, log, db, clog, frames)),
+        Ok(m) => Ok(acts::carry_out(m, rows, resident, touched, log, db, clog, frames).value),
         Err(r) => Err(r),
     }
 }
@@ -242,7 +242,7 @@ pub fn flush_to(
         &clog[..],
         frames,
     )?;
-    Ok(acts::cut_at(m, k, log, db, clog, frames))
+    Ok(acts::cut_at(m, k, log, db, clog, frames).value)
 }
 
 pub fn flush_count(
@@ -259,7 +259,7 @@ pub fn flush_count(
     ensures { counted result ≡ counted_lent 4096 (Flush page) (lent h rows.now resident.now touched.now) log.now db.now clog.now frames.now }
 {
     let m = ready_flush(h, rows, resident, touched, page, log, db, clog, frames)?;
-    Ok(acts::count_of(m))
+    Ok(acts::count_of(m).value)
 }
 
 pub fn flush_told(
@@ -277,5 +277,5 @@ pub fn flush_told(
     ensures { told_by result ≡ told_lent 4096 k (Flush page) (lent h rows.now resident.now touched.now) log.now db.now clog.now frames.now }
 {
     let m = ready_flush(h, rows, resident, touched, page, log, db, clog, frames)?;
-    Ok(acts::told_at(m, k))
+    Ok(acts::told_at(m, k).value)
 }

@@ -27,7 +27,8 @@ use Rattle.form.specs.declared.Store.{Store}
 use Rattle.form.specs.Store.{entries_of, mem_of, world_of, laid_store}
 use Rattle.form.proofs.Arrays.{Sized}
 use Rattle.form.proofs.Front.{front-means, entries-are, resident-length, frames-same}
-use Rattle.ready.specs.Ready.{Ready, readied, idle, plain}
+use Rattle.ready.specs.declared.Ready.{Ready}
+use Rattle.ready.specs.Ready.{readied, idle, plain}
 use Rattle.ready.specs.Inside.{remembered, ready_for}
 use Rattle.calls.specs.Inside.{begun_store}
 use Rattle.ready.proofs.Prepared.{ready-own, ready-plain, ready-short, call-hold}

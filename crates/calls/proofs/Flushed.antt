@@ -33,7 +33,8 @@ use Rattle.form.specs.Store.{resident_of, touched_of, mem_of, world_of, laid_sto
 use Rattle.form.proofs.Arrays.{Sized}
 use Rattle.form.proofs.Front.{front-means, entries-length, resident-length, resident-are, touched-are, table_same, frames-same}
 use Rattle.form.proofs.Called.{quiet}
-use Rattle.ready.specs.Ready.{Ready, readied, idle, plain}
+use Rattle.ready.specs.declared.Ready.{Ready}
+use Rattle.ready.specs.Ready.{readied, idle, plain}
 use Rattle.ready.specs.Inside.{remembered, ready_for}
 use Rattle.calls.specs.Inside.{marked_as}
 use Rattle.ready.proofs.Prepared.{ready-no, ready-none, ready-still, still-short, still-out}

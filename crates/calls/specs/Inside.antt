@@ -7,7 +7,8 @@ use Rattle.world.specs.declared.Slot.TheVariants.{Installed}
 use Rattle.world.specs.Run.{decided}
 use Rattle.form.specs.declared.Store.{Store}
 use Rattle.form.specs.Store.{with_array}
-use Rattle.ready.specs.Ready.{Ready, idle}
+use Rattle.ready.specs.declared.Ready.{Ready}
+use Rattle.ready.specs.Ready.{idle}
 
 -- a transaction in, with no page touched, and this table
 unfoldable pub begun_store : Store → TransactionId → Table → Store

@@ -63,7 +63,7 @@ pub fn begin(
     ensures { outcome (changed s result) log.new db.new clog.new frames.new ≡ called 4096 (Begin id) s log.old db.old clog.old frames.old }
 {
     let r = ready_begin(s, id, &log[..], &db[..], &clog[..], &frames[..])?;
-    Ok(ready::carry_out(r, log, db, clog, frames))
+    Ok(ready::carry_out(r, log, db, clog, frames).value)
 }
 
 pub fn begin_to(
@@ -78,7 +78,7 @@ pub fn begin_to(
     ensures { cut_of (cut s.lens result) log.new db.new clog.new ≡ called_to 4096 k (Begin id) s log.old db.old clog.old frames.now }
 {
     let r = ready_begin(s, id, &log[..], &db[..], &clog[..], frames)?;
-    Ok(ready::cut_at(r, k, log, db, clog, frames))
+    Ok(ready::cut_at(r, k, log, db, clog, frames).value)
 }
 
 pub fn begin_count(
@@ -92,7 +92,7 @@ pub fn begin_count(
     ensures { counted result ≡ counted_for 4096 (Begin id) s log.now db.now clog.now frames.now }
 {
     let r = ready_begin(s, id, log, db, clog, frames)?;
-    Ok(ready::count_of(r))
+    Ok(ready::count_of(r).value)
 }
 
 pub fn begin_told(
@@ -107,7 +107,7 @@ pub fn begin_told(
     ensures { told_by result ≡ told_for 4096 k (Begin id) s log.now db.now clog.now frames.now }
 {
     let r = ready_begin(s, id, log, db, clog, frames)?;
-    Ok(ready::told_at(r, k))
+    Ok(ready::told_at(r, k).value)
 }
 
 // ---- flush
@@ -118,7 +118,7 @@ fn marked(s: Store, page: u32) -> Result<Ready, Refusal>
 {
     let touched = frames::mark(s.held.touched, page)?;
     let held = Held { touched, ..s.held };
-    Ok(ready::nothing(Store { held, ..s }))
+    Ok(ready::nothing(numbers::ACCEPTED, Store { held, ..s }))
 }
 
 fn ready_flush(
@@ -139,7 +139,7 @@ fn ready_flush(
         return marked(s, page);
     }
     let Some(at) = frames::find(s.frames, page) else {
-        return Ok(ready::nothing(s));
+        return Ok(ready::nothing(numbers::ACCEPTED, s));
     };
     let plan = plans::flush_plan(page, at);
     stores::check_room(plan, s.lens, log, db, clog, frames)?;
@@ -158,7 +158,7 @@ pub fn flush(
     ensures { outcome (changed s result) log.new db.new clog.new frames.new ≡ called 4096 (Flush page) s log.old db.old clog.old frames.old }
 {
     let r = ready_flush(s, page, &log[..], &db[..], &clog[..], &frames[..])?;
-    Ok(ready::carry_out(r, log, db, clog, frames))
+    Ok(ready::carry_out(r, log, db, clog, frames).value)
 }
 
 pub fn flush_to(
@@ -173,7 +173,7 @@ pub fn flush_to(
     ensures { cut_of (cut s.lens result) log.new db.new clog.new ≡ called_to 4096 k (Flush page) s log.old db.old clog.old frames.now }
 {
     let r = ready_flush(s, page, &log[..], &db[..], &clog[..], frames)?;
-    Ok(ready::cut_at(r, k, log, db, clog, frames))
+    Ok(ready::cut_at(r, k, log, db, clog, frames).value)
 }
 
 pub fn flush_count(
@@ -187,7 +187,7 @@ pub fn flush_count(
     ensures { counted result ≡ counted_for 4096 (Flush page) s log.now db.now clog.now frames.now }
 {
     let r = ready_flush(s, page, log, db, clog, frames)?;
-    Ok(ready::count_of(r))
+    Ok(ready::count_of(r).value)
 }
 
 pub fn flush_told(
@@ -202,5 +202,5 @@ pub fn flush_told(
     ensures { told_by result ≡ told_for 4096 k (Flush page) s log.now db.now clog.now frames.now }
 {
     let r = ready_flush(s, page, log, db, clog, frames)?;
-    Ok(ready::told_at(r, k))
+    Ok(ready::told_at(r, k).value)
 }

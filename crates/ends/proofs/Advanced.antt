@@ -25,7 +25,8 @@ use Rattle.ready.specs.Ready.{readied, idle}
 use Rattle.ready.specs.Inside.{ready_for}
 use Rattle.settle.specs.Inside.{marked_store, slot_for, sealed_store, sealed_as}
 use Rattle.acts.specs.declared.Change.TheVariants.{Same}
-use Rattle.acts.specs.Made.{Made, rows_after, touched_after, resident_after, counted_head, after_in, bare_made, meta_made, made_in}
+use Rattle.acts.specs.declared.Made.{Made}
+use Rattle.acts.specs.Made.{rows_after, touched_after, resident_after, counted_head, after_in, bare_made, meta_made, made_in}
 use Rattle.acts.specs.Inside.{ready_lent}
 use Rattle.acts.proofs.Laws.{made_none, slot_kept, laid-after}
 use Rattle.ends.specs.Inside.{Ending, counters_in, marked_head, advance_ending, sealed_head, sealed_made}

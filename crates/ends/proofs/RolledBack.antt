@@ -36,7 +36,8 @@ use Rattle.ready.specs.Inside.{ready_for}
 use Rattle.settle.specs.Inside.{ended_store, raised_by, slot_for, sealed_store, sealed_as}
 use Rattle.acts.specs.declared.Change.{Change}
 use Rattle.acts.specs.declared.Change.TheVariants.{Same, Set}
-use Rattle.acts.specs.Made.{Made, rows_after, touched_after, resident_after, counted_head, after_in, bare_made, meta_made, made_in}
+use Rattle.acts.specs.declared.Made.{Made}
+use Rattle.acts.specs.Made.{rows_after, touched_after, resident_after, counted_head, after_in, bare_made, meta_made, made_in}
 use Rattle.acts.specs.Inside.{ready_lent}
 use Rattle.acts.proofs.Laws.{made-no, made_none, laid-after}
 use Rattle.ends.specs.Inside.{Ending, counters_in, ended_head, rollback_ending, sealed_head, sealed_made}

@@ -17,11 +17,13 @@ use Rattle.stores.specs.Room.{number_for}
 use Rattle.form.specs.declared.Store.{Store}
 use Rattle.lent.specs.declared.Head.{Head}
 use Rattle.lent.specs.Lent.{Lent, store_of, odd, laid_lent}
-use Rattle.ready.specs.Ready.{Ready, readied, idle, with_meta}
+use Rattle.ready.specs.declared.Ready.{Ready}
+use Rattle.ready.specs.Ready.{readied, idle, with_meta}
 use Rattle.ready.specs.Inside.{ready_for}
 use Rattle.settle.specs.Inside.{slot_for, sealed_store, sealed_as}
 use Rattle.acts.specs.declared.Change.TheVariants.{Same}
-use Rattle.acts.specs.Made.{Made, after_in, ready_in, bare_made, meta_made, made_in}
+use Rattle.acts.specs.declared.Made.{Made}
+use Rattle.acts.specs.Made.{after_in, ready_in, bare_made, meta_made, made_in}
 use Rattle.acts.specs.Inside.{ready_lent}
 use Rattle.acts.proofs.Laws.{made-no, made-out}
 use Rattle.ends.specs.Inside.{Ending, sealed_head, unless, sealed_made}

@@ -26,7 +26,8 @@ use Rattle.settle.specs.Inside.{raised_by, slot_for}
 use Rattle.lent.specs.declared.Head.{Head}
 use Rattle.acts.specs.declared.Change.{Change}
 use Rattle.acts.specs.declared.Change.TheVariants.{Same, Set}
-use Rattle.acts.specs.Made.{Made, bare_made, meta_made}
+use Rattle.acts.specs.declared.Made.{Made}
+use Rattle.acts.specs.Made.{bare_made, meta_made}
 use Rattle.ends.specs.declared.Ending as code
 
 -- the counters that page 0 gets

@@ -113,6 +113,8 @@ fn advance_ending(h: Head, mark: TransactionId) -> Ending
     }
 }
 
+// This one, ready_commit and ready_rollback are not inlined, so that what they need on the stack is given back before the call is carried out.
+#[inline(never)]
 fn ready_advance(
     h: Head,
     rows: &[[u64; 3]; 256],
@@ -128,7 +130,7 @@ fn ready_advance(
 {
     lent::check_front(h, rows, resident, touched, log, db, clog, frames)?;
     if mark.0 <= h.mark.0 {
-        return Ok(acts::bare(Change::Same, h));
+        return Ok(acts::bare(numbers::ACCEPTED, Change::Same, h));
     }
     let x = advance_ending(h, mark);
     seal(h, x, resident, log, db, clog, frames)
@@ -159,7 +161,7 @@ pub fn advance(
         &clog[..],
         &frames[..],
     ) {
-        Ok(m) => Ok(acts::carry_out(m, rows, resident, touched, log, db, clog, frames)),
+        Ok(m) => Ok(acts::carry_out(m, rows, resident, touched, log, db, clog, frames).value),
         Err(r) => Err(r),
     }
 }
@@ -189,7 +191,7 @@ pub fn advance_to(
         &clog[..],
         frames,
     )?;
-    Ok(acts::cut_at(m, k, log, db, clog, frames))
+    Ok(acts::cut_at(m, k, log, db, clog, frames).value)
 }
 
 pub fn advance_count(
@@ -206,7 +208,7 @@ pub fn advance_count(
     ensures { counted result ≡ counted_lent 4096 (Advance mark) (lent h rows.now resident.now touched.now) log.now db.now clog.now frames.now }
 {
     let m = ready_advance(h, rows, resident, touched, mark, log, db, clog, frames)?;
-    Ok(acts::count_of(m))
+    Ok(acts::count_of(m).value)
 }
 
 pub fn advance_told(
@@ -224,7 +226,7 @@ pub fn advance_told(
     ensures { told_by result ≡ told_lent 4096 k (Advance mark) (lent h rows.now resident.now touched.now) log.now db.now clog.now frames.now }
 {
     let m = ready_advance(h, rows, resident, touched, mark, log, db, clog, frames)?;
-    Ok(acts::told_at(m, k))
+    Ok(acts::told_at(m, k).value)
 }
 
 // ---- commit
@@ -254,6 +256,7 @@ fn commit_ending(
     }
 }
 
+#[inline(never)]
 fn ready_commit(
     h: Head,
     rows: &[[u64; 3]; 256],
@@ -268,7 +271,7 @@ fn ready_commit(
 {
     lent::check_front(h, rows, resident, touched, log, db, clog, frames)?;
     if h.held != 1 {
-        return Ok(acts::bare(Change::Same, h));
+        return Ok(acts::bare(numbers::ACCEPTED, Change::Same, h));
     }
     let x = commit_ending(h, rows, resident, touched);
     seal(h, x, resident, log, db, clog, frames)
@@ -297,7 +300,7 @@ pub fn commit(
         &clog[..],
         &frames[..],
     ) {
-        Ok(m) => Ok(acts::carry_out(m, rows, resident, touched, log, db, clog, frames)),
+        Ok(m) => Ok(acts::carry_out(m, rows, resident, touched, log, db, clog, frames).value),
         Err(r) => Err(r),
     }
 }
@@ -325,7 +328,7 @@ pub fn commit_to(
         &clog[..],
         frames,
     )?;
-    Ok(acts::cut_at(m, k, log, db, clog, frames))
+    Ok(acts::cut_at(m, k, log, db, clog, frames).value)
 }
 
 pub fn commit_count(
@@ -341,7 +344,7 @@ pub fn commit_count(
     ensures { counted result ≡ counted_lent 4096 Commit (lent h rows.now resident.now touched.now) log.now db.now clog.now frames.now }
 {
     let m = ready_commit(h, rows, resident, touched, log, db, clog, frames)?;
-    Ok(acts::count_of(m))
+    Ok(acts::count_of(m).value)
 }
 
 pub fn commit_told(
@@ -358,7 +361,7 @@ pub fn commit_told(
     ensures { told_by result ≡ told_lent 4096 k Commit (lent h rows.now resident.now touched.now) log.now db.now clog.now frames.now }
 {
     let m = ready_commit(h, rows, resident, touched, log, db, clog, frames)?;
-    Ok(acts::told_at(m, k))
+    Ok(acts::told_at(m, k).value)
 }
 
 // ---- rollback
@@ -418,6 +421,7 @@ fn rollback_ending(
     }
 }
 
+#[inline(never)]
 fn ready_rollback(
     h: Head,
     rows: &[[u64; 3]; 256],
@@ -436,7 +440,7 @@ fn ready_rollback(
         return Err(Refusal::BadPage);
     }
     if h.held != 1 {
-        return Ok(acts::bare(Change::Same, h));
+        return Ok(acts::bare(numbers::ACCEPTED, Change::Same, h));
     }
     let x = rollback_ending(h, rows, resident, touched, list);
     seal(h, x, resident, log, db, clog, frames)
@@ -468,7 +472,7 @@ pub fn rollback(
         &clog[..],
         &frames[..],
     ) {
-        Ok(m) => Ok(acts::carry_out(m, rows, resident, touched, log, db, clog, frames)),
+        Ok(m) => Ok(acts::carry_out(m, rows, resident, touched, log, db, clog, frames).value),
         Err(r) => Err(r),
     }
 }
@@ -498,7 +502,7 @@ pub fn rollback_to(
         &clog[..],
         frames,
     )?;
-    Ok(acts::cut_at(m, k, log, db, clog, frames))
+    Ok(acts::cut_at(m, k, log, db, clog, frames).value)
 }
 
 pub fn rollback_count(
@@ -515,7 +519,7 @@ pub fn rollback_count(
     ensures { counted result ≡ counted_lent 4096 (Rollback list.now) (lent h rows.now resident.now touched.now) log.now db.now clog.now frames.now }
 {
     let m = ready_rollback(h, rows, resident, touched, list, log, db, clog, frames)?;
-    Ok(acts::count_of(m))
+    Ok(acts::count_of(m).value)
 }
 
 pub fn rollback_told(
@@ -533,5 +537,5 @@ pub fn rollback_told(
     ensures { told_by result ≡ told_lent 4096 k (Rollback list.now) (lent h rows.now resident.now touched.now) log.now db.now clog.now frames.now }
 {
     let m = ready_rollback(h, rows, resident, touched, list, log, db, clog, frames)?;
-    Ok(acts::told_at(m, k))
+    Ok(acts::told_at(m, k).value)
 }

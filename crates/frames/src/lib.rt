@@ -3,7 +3,7 @@
 // Values go in by value and come back. Every public function is total: its contract is an equation with a definition of specs/.
 #![tactic(auto)]
 
-ghost use Rattle.std.specs.Prelude.{◌≡◌, ◌≤◌, ◌*◌, min, length, take};
+ghost use Rattle.std.specs.Prelude.{◌≡◌, ◌≤◌, ◌*◌, min, length, take, drop};
 ghost use Rattle.std.proofs.lemmas.List.Edits.{sets};
 ghost use Rattle.fields.specs.Bytes.{part};
 ghost use Rattle.fields.specs.Files.{file_of};
@@ -72,12 +72,12 @@ fn frame_count(size: usize) -> usize
 
 // ---- lists of page numbers
 
-// The loop has no early way out, so that several pages are compared at once.
-fn is_in(pages: &[u32], page: u32) -> bool
-    ensures { result ≡ is_in page pages.now }
+// Whether the page stands among these, from `from` on. The loop has no early way out, so that several pages are compared at once.
+fn is_in(pages: &[u32], from: usize, page: u32) -> bool
+    ensures { result ≡ is_in page (drop from pages.now) }
 {
     let mut found = false;
-    for x in pages {
+    for x in &pages[from.min(pages.len())..] {
         found |= *x == page;
     }
     found
@@ -87,7 +87,7 @@ fn are_distinct(pages: &[u32]) -> bool
     ensures { result ≡ distinct pages.now }
 {
     for (i, page) in pages.iter().enumerate() {
-        if is_in(&pages[i + 1..], *page) {
+        if is_in(pages, i + 1, *page) {
             return false;
         }
     }
@@ -139,7 +139,7 @@ pub fn seat(f: Frames, size: usize, page: u32) -> Result<Frames, Refusal>
 {
     let list = held(&f.pages, f.count);
     let n = list.len();
-    if is_in(list, page) {
+    if is_in(list, 0, page) {
         return Ok(f);
     }
     if frame_count(size) <= n {
@@ -166,7 +166,7 @@ pub fn touched_formed(t: Touched) -> bool
 pub fn is_marked(t: Touched, page: u32) -> bool
     ensures { result ≡ is_in page (touched_of t) }
 {
-    is_in(held(&t.pages, t.count), page)
+    is_in(held(&t.pages, t.count), 0, page)
 }
 
 // How many pages come before the first that is not below this one.

@@ -8,7 +8,7 @@ use native.Mathlib.Omega.{arith}
 use borrow.Author.Tests.{le-ltb, ne_eqb}
 use lib.ListN.{length, get_or}
 use Rattle.std.specs.Prelude.{Option, Some, None, Result, Ok, Err}
-use Rattle.std.specs.Result.{result_unwrap_or}
+use Rattle.std.specs.Result.{result_err, result_unwrap_or}
 use Rattle.fields.specs.declared.refusal.Refusal.{Refusal}
 use Rattle.fields.specs.declared.refusal.Refusal.TheVariants as refusal
 use Rattle.fields.specs.Refusals.{number_of}
@@ -38,7 +38,8 @@ use Rattle.opening.proofs.Laws.{world-meta, world-plain, opened-refused, opened-
 use Rattle.opening.proofs.Tables.{clog-within}
 use Rattle.opening.proofs.Replays.{replay-room, replay-fits}
 use Rattle.opening.proofs.Formed.{no-means, ids-fit}
-use Rattle.scan.specs.Surveys.{Surveyed, surveyed}
+use Rattle.scan.specs.declared.Tables.{Tables}
+use Rattle.scan.specs.Surveys.{Surveyed, surveyed_of, surveyed}
 use Rattle.scan.proofs.Surveys.{clog-fits}
 use Rattle.replay.specs.Replay.{laid_from}
 use Rattle.opens.specs.Inside.{Loadable, clog_by, meta_counters, plain_counters, store_at_rest, store_by}
@@ -65,6 +66,25 @@ pub stops-refused : (P : ℕ) (r : Refusal) (log db : File) → (r ≡ refusal.T
 unfolding stopped_by
 stops-refused P r log db t u =
     rw (ne_eqb (number_of r) 2 (λ e. t (number-same r refusal.Torn e)), ne_eqb (number_of r) 3 (λ e. u (number-same r refusal.UnknownTag e)))
+
+-- ---- what the survey says: a refusal, or the tables to go on with
+
+-- the number of a refusal, 0 where there is none
+abbrev number_told : Option Refusal → ℕ
+number_told None = 0
+number_told (Some r) = number_of r
+
+pub told-by : (x : Result Tables Refusal) (r : Refusal) (s : Surveyed) → result_err x ≡ Some r → surveyed_of x ≡ s → number_of r ≡ s.number
+told-by x r s h e = sym (ap number_told h) ∙ go x ∙ ap (λ (s : Surveyed). s.number) e
+  where
+    go : (x : Result Tables Refusal) → number_told (result_err x) ≡ (surveyed_of x).number
+    go (Ok t) = refl
+    go (Err r) = refl
+
+pub tables-by : (x : Result Tables Refusal) (d t : Tables) (o : Option Refusal) (s : Surveyed) → o ≡ result_err x → ((r : Refusal) → o ≡ Some r → ⊥) → t ≡ result_unwrap_or x d
+    → surveyed_of x ≡ s → surveyed_of (Ok t) ≡ s
+tables-by (Ok u) d t o s e n h k = rw h k
+tables-by (Err r) d t o s e n h k = absurd (n r e)
 
 -- ---- what page 0 holds
 

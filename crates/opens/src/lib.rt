@@ -3,6 +3,7 @@
 #![tactic(auto)]
 
 ghost use Rattle.std.specs.Prelude.{◌≡◌, map, false, ◌≤◌, max, length};
+ghost use Rattle.std.specs.Result.{result_err};
 ghost use Rattle.fields.specs.Files.{file_of, unfit};
 ghost use Rattle.table.specs.Entries.{list_of};
 ghost use Rattle.clog.specs.Slots.{open_clog, record_all, settled};
@@ -15,6 +16,7 @@ use fields::{CommitTime, Refusal, TransactionId, numbers};
 use form::{Held, Store};
 use meta::Counters;
 use opening::Unopened;
+use scan::Tables;
 use table::Table;
 use world::{Lens, Slot};
 
@@ -133,6 +135,17 @@ fn clog_by(stored: Option<Counters>, clog: &mut [u8], len: usize, logged: Table)
 
 // ---- opening
 
+// The refusal that an opening stops with, if any. A torn record is one like the others, and not the log's end: it has an arm so that a wrong version can say so.
+fn refusal_in(found: Result<Tables, Refusal>) -> Option<Refusal>
+    ensures { result ≡ result_err found }
+{
+    match found {
+        Ok(_) => None,
+        Err(Refusal::Torn) => Some(Refusal::Torn),
+        Err(r) => Some(r),
+    }
+}
+
 // Why a refused opening gives no store. At a bad record of the log the images before it are laid; any other refusal changes no byte. The log's length is end, the
 // database's is len.
 pub fn stop(r: Refusal, log: &[u8], end: usize, db: &mut [u8], len: usize) -> Unopened
@@ -155,10 +168,14 @@ pub fn open(
     ensures { opened_as (opened_in result) log.new db.new clog.new frames.now ≡ opened 4096 lens log.old db.old clog.old frames.now }
 {
     let found = scan::survey(lens, &log[..], &db[..], &clog[..], frames);
-    let tables = match found {
-        Ok(tables) => tables,
-        Err(r) => return Err(stop(r, &log[..], lens.log, db, lens.db)),
-    };
+    if let Some(r) = refusal_in(found) {
+        return Err(stop(r, &log[..], lens.log, db, lens.db));
+    }
+    // Nothing is refused, so there are tables; the empty ones are not taken.
+    let tables = found.unwrap_or(Tables {
+        logged: table::empty(),
+        full: table::empty(),
+    });
     let n = replay::lay_images(&log[..], lens.log, db, lens.db);
     // The database was tested, so that its page 0 can be read.
     let stored = meta::read_meta(&db[..], n).unwrap_or(None);

@@ -4,7 +4,7 @@ use Prim.Native.Nat.{ℕ}
 use native.Mathlib.Omega.{arith}
 use mathlib.Core.Path.{◌≡◌, refl, sym, ap, ◌∙◌}
 use mathlib.Core.List.{List}
-use Rattle.std.specs.Prelude.{Option, Some, None, Result, Ok, Err}
+use Rattle.std.specs.Prelude.{Option, Result, Ok, Err}
 use Rattle.fields.specs.declared.refusal.Refusal.{Refusal}
 use Rattle.fields.specs.Refusals.{number_in}
 use Rattle.fields.proofs.AnswerLaws.{number-positive, number-same}
@@ -15,8 +15,8 @@ use Rattle.stores.specs.Room.{Carried, Cut, cut, cut_of}
 use Rattle.stores.proofs.TellLaws.{telling-same}
 use Rattle.form.specs.declared.Store.{Store}
 use Rattle.form.specs.Store.{Changed, changed, Outcome, outcome}
-use Rattle.ready.specs.declared.Ready as code
-use Rattle.ready.specs.Ready.{Ready, has_slot, slot_in, accepted, Counted, counted, ToldCall, told_by}
+use Rattle.ready.specs.declared.Numbered.{Numbered}
+use Rattle.ready.specs.Ready.{changed_as, cut_as, Counted, counted_as, counted, ToldCall, told_as, told_by}
 
 -- two answers of one number that agree where they are accepted
 answer-same : {A : Type 0} (a b : Result A Refusal) → number_in a ≡ number_in b → ((x y : A) → a ≡ Ok x → b ≡ Ok y → x ≡ y) → a ≡ b
@@ -92,15 +92,36 @@ told_same a b c f g =
     answer-same a b (number-told a ∙ ap (λ (x : ToldCall). x.number) e ∙ sym (number-told b))
     (λ x y p q. telling-same x y (ap (λ (u : ToldCall). u.values) (sym (ap told_by p) ∙ e ∙ ap told_by q)))
 
--- what an accepted call would do
-slots-same : (x y : Option ℕ) → has_slot x ≡ has_slot y → slot_in x ≡ slot_in y → x ≡ y
-slots-same (Some i) (Some j) e f = ap (λ (n : ℕ). Some n) f
-slots-same (Some i) None e f = cc
-slots-same None (Some j) e f = cc
-slots-same None None e f = refl
+-- the same of a call of any number, as it was made ready
+module _ (log db clog log' db' clog' : List ℕ) where
+  pub carried_same : (a b : Numbered Store) (frames frames' : List ℕ) (o : Outcome) →
+      outcome (changed_as a) log db clog frames ≡ o → outcome (changed_as b) log' db' clog' frames' ≡ o →
+      (a ≡ b) × (log ≡ log') × (db ≡ db') × (clog ≡ clog') × (frames ≡ frames')
+  carried_same a b frames frames' o e f =
+      let p = e ∙ sym f in (
+        ap (λ (x : Outcome). record { number = x.number; value = x.store }) p,
+        ap (λ (x : Outcome). x.log) p,
+        ap (λ (x : Outcome). x.db) p,
+        ap (λ (x : Outcome). x.clog) p,
+        ap (λ (x : Outcome). x.frames) p,
+      )
 
-pub accepted-same : (a b : code.Ready) → accepted a ≡ accepted b → a ≡ b
-accepted-same a b e =
-    let m = slots-same a.meta b.meta (ap (λ (r : Ready). r.meta) e) (ap (λ (r : Ready). r.slot) e) in
-    ap (λ (r : Ready). record { plan = r.plan; back = r.back; meta = a.meta; store = r.store }) e
-    ∙ ap (λ (x : Option ℕ). record { plan = b.plan; back = b.back; meta = x; store = b.store }) m
+  pub stopped-same : (a b : Numbered Lens) (c : Carried) → cut_of (cut_as a) log db clog ≡ c → cut_of (cut_as b) log' db' clog' ≡ c →
+      (a ≡ b) × (log ≡ log') × (db ≡ db') × (clog ≡ clog')
+  stopped-same a b c e f =
+      let p = e ∙ sym f in (
+        ap (λ (x : Carried). record { number = x.number; value = lens_of x.files }) p,
+        ap (λ (x : Carried). x.files.log.bytes) p,
+        ap (λ (x : Carried). x.files.db.bytes) p,
+        ap (λ (x : Carried). x.files.clog.bytes) p,
+      )
+
+pub numbered-same : (a b : Numbered ℕ) → counted_as a ≡ counted_as b → a ≡ b
+numbered-same a b e = ap (λ (x : Counted). record { number = x.number; value = x.stores }) e
+
+pub telling_same : (a b : Numbered (Option Telling)) (c : ToldCall) → told_as a ≡ c → told_as b ≡ c → a ≡ b
+unfolding told_as
+telling_same a b c f g =
+    let e = f ∙ sym g in
+    ap (λ (n : ℕ). record { number = n; value = a.value }) (ap (λ (x : ToldCall). x.number) e)
+    ∙ ap (λ (t : Option Telling). record { number = b.number; value = t }) (telling-same a.value b.value (ap (λ (x : ToldCall). x.values) e))

@@ -4,7 +4,8 @@ use native.Mathlib.Numerals.{add-one}
 use native.Mathlib.Omega.{arith}
 use mathlib.Core.Path.{◌≡◌, refl, sym, ap, ◌∙◌}
 use mathlib.Core.List.{List, []}
-use Rattle.std.specs.Prelude.{Option, Some, None, Result, Ok, Err}
+use mathlib.Core.Bool.{cond}
+use Rattle.std.specs.Prelude.{Result, Ok, Err}
 use Rattle.std.specs.Result.{result_unwrap_or}
 use lib.ListN.{length, take, drop, get_or}
 use lib.Dec.{ltb}
@@ -33,13 +34,14 @@ use Rattle.picks.specs.declared.Picked.{Picked}
 use Rattle.picks.specs.Picks.{picked_of}
 use Rattle.plans.specs.Planned.{plan_of}
 use Rattle.form.specs.declared.Store.{Store}
-use Rattle.form.specs.Store.{mem_of, world_of, laid_store, changed, outcome, called, called_on}
+use Rattle.form.specs.Store.{mem_of, world_of, laid_store, changed, Outcome, outcome, called, called_on}
 use Rattle.form.proofs.Arrays.{Sized}
 use Rattle.form.proofs.Front.{front-means, entries-length, touched-length, resident-length, table_same, frames-same, touched-same}
 use Rattle.form.proofs.Called.{quiet_is}
-use Rattle.ready.specs.declared.Ready as code
-use Rattle.ready.specs.Ready.{Prepared, prepared, Ready, accepted, readied, meta_of, refill_to, refill, framed, idle, plain, with_meta, with_lens, files_to, files_at, carried_out, cut_at, Counted, counted, called_to, counted_for, counted_of}
-use Rattle.ready.specs.Inside.{laid_meta, remembered, ready_for}
+use Rattle.ready.specs.declared.Ready.{Ready}
+use Rattle.ready.specs.declared.Numbered.{Numbered}
+use Rattle.ready.specs.Ready.{Prepared, prepared, accepted, readied, meta_of, refill_to, refill, framed, idle, plain, with_meta, with_lens, files_to, files_at, changed_as, carried_out, cut_as, cut_at, Counted, counted_as, counted, called_to, counted_for, counted_of}
+use Rattle.ready.specs.Inside.{remembered, ready_for}
 
 -- ---- numbers
 
@@ -90,6 +92,10 @@ module _ (P : ℕ) (r : Ready) (frames : List ℕ) (k : ℕ) (log db clog : List
 abbrev cut_in : ℕ → Files → Carried
 cut_in n f = record { number = n; files = f }
 
+-- what comes out, with number 0
+abbrev none_said : Outcome → Outcome
+none_said o = record { number = 0; store = o.store; log = o.log; db = o.db; clog = o.clog; frames = o.frames }
+
 module _ (P : ℕ) (r : Ready) (frames log db clog : List ℕ) (cut : Cut) (log' db' clog' : List ℕ) where
   pub cut-files : (k : ℕ) → cut_of cut log' db' clog' ≡ carried P (drop 0 (meant P frames r.plan)) (k - 0) (files_of r.store.lens log db clog) →
       files_of cut.lens log' db' clog' ≡ files_at P k (readied P r log db clog frames) log db clog
@@ -119,6 +125,20 @@ cut-lens n (Err r) = refl
 
 -- a call with no stores, and the two kinds of accepted calls with stores
 
+-- each of them has number 0 as it is
+
+pub nothing-accepted : (r : Ready) (s : Store) → r ≡ idle 0 s → accepted r ≡ idle 0 s
+unfolding idle
+nothing-accepted r s e = ap accepted e
+
+pub plain-accepted : (r : Ready) (plan : Plan) (u : Store) → r ≡ plain plan u → accepted r ≡ plain plan u
+unfolding plain
+plain-accepted r plan u e = ap accepted e
+
+pub meta-accepted : (r : Ready) (plan : Plan) (back : Picked) (slot : ℕ) (u : Store) → r ≡ with_meta plan back slot u → accepted r ≡ with_meta plan back slot u
+unfolding with_meta
+meta-accepted r plan back slot u e = ap accepted e
+
 module _ (P : ℕ) (log db clog frames : List ℕ) where
   pub idle-is : (n : ℕ) (s : Store) → readied P (idle n s) log db clog frames ≡ prepared n [] s frames
   unfolding readied framed refill_to idle plan_of picked_of meant steps_of
@@ -146,14 +166,10 @@ pub refill-turn : (P : ℕ) (db : File) (x : Picked) (i : ℕ) (frames a b : Lis
 unfolding refill_to
 refill-turn P db x i frames a b e f = f ∙ rw (e, add-one i)
 
-pub framed-out : (P : ℕ) (db : File) (r : code.Ready) (frames a b : List ℕ) → a ≡ refill P db r.back frames →
-    b ≡ laid_meta P r.meta r.plan.meta a → b ≡ framed P db (accepted r) frames
+pub framed-out : (P : ℕ) (db : File) (r : Ready) (frames a b : List ℕ) → a ≡ refill P db r.back frames →
+    b ≡ cond r.meta (with_frame P a r.slot (meta_of P r.plan.meta)) a → b ≡ framed P db r frames
 unfolding framed
-framed-out P db r frames a b e f = f ∙ rw e (go r.meta)
-  where
-    go : (x : Option ℕ) → laid_meta P x r.plan.meta (refill P db r.back frames) ≡ framed P db (accepted (record { plan = r.plan; back = r.back; meta = x; store = r.store })) frames
-    go (Some slot) = refl
-    go None = refl
+framed-out P db r frames a b e f = f ∙ rw e
 
 -- ---- the ways out of making ready
 
@@ -380,13 +396,27 @@ module _ (P : ℕ) (c : Call) (s : Store) (log db clog frames : List ℕ) where
     unfolding idle plan_of steps_of counted_of
     refused-count a h = ap counted h ∙ counted-done (idle (number_of e) s) (counted (Err e)) is refl
 
-  module _ (r : code.Ready) (is : readied P (accepted r) log db clog frames ≡ ready_for P c s log db clog frames) where
-    pub accepted-called : (u : Store) (log' db' clog' frames' : List ℕ) →
-        outcome (changed r.store (Ok u)) log' db' clog' frames' ≡ carried_out P (readied P (accepted r) log db clog frames) log db clog →
-        outcome (changed s (Ok u)) log' db' clog' frames' ≡ called P c s log db clog frames
-    accepted-called u log' db' clog' frames' e = e ∙ ap (λ (p : Prepared). carried_out P p log db clog) is ∙ ready-called
+  -- what is made of a call that was not refused has number 0, whatever its value says
+  module _ (r : Ready) (is : readied P (accepted r) log db clog frames ≡ ready_for P c s log db clog frames) where
+    out-accepted : none_said (carried_out P (readied P r log db clog frames) log db clog) ≡ carried_out P (readied P (accepted r) log db clog frames) log db clog
+    unfolding carried_out readied framed
+    out-accepted = refl
 
-    pub accepted-cut : (k : ℕ) (n : Lens) (log' db' clog' : List ℕ) →
-        cut_of (cut r.store.lens (Ok n)) log' db' clog' ≡ cut_at P k (readied P (accepted r) log db clog frames) log db clog →
-        cut_of (cut s.lens (Ok n)) log' db' clog' ≡ called_to P k c s log db clog frames
-    accepted-cut k n log' db' clog' e = e ∙ ap (λ (p : Prepared). cut_at P k p log db clog) is ∙ ready-cut k
+    pub accepted-called : (x : Numbered Store) (log' db' clog' frames' : List ℕ) →
+        outcome (changed_as x) log' db' clog' frames' ≡ carried_out P (readied P r log db clog frames) log db clog →
+        outcome (changed s (Ok x.value)) log' db' clog' frames' ≡ called P c s log db clog frames
+    accepted-called x log' db' clog' frames' e = ap none_said e ∙ out-accepted ∙ ap (λ (p : Prepared). carried_out P p log db clog) is ∙ ready-called
+
+    cut-accepted : (k : ℕ) → cut_in 0 (cut_at P k (readied P r log db clog frames) log db clog).files ≡ cut_at P k (readied P (accepted r) log db clog frames) log db clog
+    unfolding cut_at readied
+    cut-accepted k = refl
+
+    pub accepted-cut : (k : ℕ) (x : Numbered Lens) (log' db' clog' : List ℕ) →
+        cut_of (cut_as x) log' db' clog' ≡ cut_at P k (readied P r log db clog frames) log db clog →
+        cut_of (cut s.lens (Ok x.value)) log' db' clog' ≡ called_to P k c s log db clog frames
+    accepted-cut k x log' db' clog' e =
+        ap (λ (y : Carried). cut_in 0 y.files) e ∙ cut-accepted k ∙ ap (λ (p : Prepared). cut_at P k p log db clog) is ∙ ready-cut k
+
+    pub accepted-count : (x : Numbered ℕ) → counted_as x ≡ counted_of r → counted (Ok x.value) ≡ counted_for P c s log db clog frames
+    unfolding counted_of
+    accepted-count x e = counted-done (accepted r) (counted (Ok x.value)) is (ap (λ (y : Counted). counted (Ok y.stores)) e)

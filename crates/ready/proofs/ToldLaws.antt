@@ -6,7 +6,7 @@ use mathlib.Core.List.{List, []}
 use mathlib.Core.Bool.{Bool, true, false, cond}
 use lib.Dec.{ltb}
 use borrow.Author.Tests.{le-ltb}
-use Rattle.std.specs.Prelude.{Option, Result, Err}
+use Rattle.std.specs.Prelude.{Option, Result, Ok, Err}
 use Rattle.fields.specs.declared.refusal.Refusal.{Refusal}
 use Rattle.fields.specs.Refusals.{number_of}
 use Rattle.world.proofs.CallLaws.{both_zero}
@@ -24,7 +24,9 @@ use Rattle.form.specs.declared.Store.{Store}
 use Rattle.form.specs.Store.{world_of, laid_store}
 use Rattle.form.proofs.Front.{front-means}
 use Rattle.plans.specs.Planned.{plan_of}
-use Rattle.ready.specs.Ready.{Prepared, prepared, Ready, readied, idle, ToldCall, told_by, told_for, told_of}
+use Rattle.ready.specs.declared.Ready.{Ready}
+use Rattle.ready.specs.declared.Numbered.{Numbered}
+use Rattle.ready.specs.Ready.{Prepared, prepared, accepted, readied, idle, ToldCall, told_as, told_by, told_for, told_of}
 use Rattle.ready.specs.Inside.{remembered, ready_for}
 
 abbrev told_call : ℕ → List ℕ → ToldCall
@@ -90,3 +92,9 @@ module _ (P : ℕ) (big : 36 ≤ P) (k : ℕ) (c : Call) (s : Store) (log db clo
   unfolding told_by told_of told_in idle plan_of meant steps_of tell_all
   refused-told e a is h =
       told-done (idle (number_of e) s) a is (ap told_by h ∙ ap (told_call (number_of e)) (rw (none_told k, same-either (ltb 16777216 s.lens.log))))
+
+  -- not refused: the number is 0, whatever the value says
+  module _ (r : Ready) (is : readied P (accepted r) log db clog frames ≡ ready_for P c s log db clog frames) where
+    pub accepted-told : (x : Numbered (Option Telling)) → told_as x ≡ told_of P k r → told_by (Ok x.value) ≡ told_for P k c s log db clog frames
+    unfolding told_as told_by told_of
+    accepted-told x e = told-done (accepted r) (Ok x.value) is (ap (λ (y : ToldCall). told_call 0 y.values) e)

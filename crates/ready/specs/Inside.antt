@@ -1,19 +1,12 @@
 -- What the contracts of private functions cite in the crates above: what making a call ready has to give; a reader of the public ones need not know it. P is the page size. Assumes nothing.
-use Rattle.std.specs.Prelude.{ℕ, List, [], Option, Some, None}
-use Rattle.meta.specs.declared.Counters.{Counters}
-use Rattle.frames.specs.Copies.{with_frame}
+use Rattle.std.specs.Prelude.{ℕ, List, []}
 use Rattle.world.specs.World.{World}
 use Rattle.world.specs.Calls.{Call, steps, keeps}
 use Rattle.world.specs.Refusals.{refuses}
 use Rattle.world.specs.Run.{decided}
 use Rattle.form.specs.declared.Store.{Store}
 use Rattle.form.specs.Store.{world_of, laid_store}
-use Rattle.ready.specs.Ready.{Prepared, prepared, meta_of}
-
--- the counters into page 0's frame, where there is one to write
-abbrev pub laid_meta : ℕ → Option ℕ → Counters → List ℕ → List ℕ
-laid_meta P (Some slot) m frames = with_frame P frames slot (meta_of P m)
-laid_meta P None m frames = frames
+use Rattle.ready.specs.Ready.{Prepared, prepared}
 
 -- the store s with what a call remembers of the world w
 abbrev pub remembered : ℕ → Call → Store → World → Store

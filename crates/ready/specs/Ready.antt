@@ -1,6 +1,6 @@
 -- A call, made ready: its number, its stores, and what it leaves in memory and in the frame buffer; then carried out, cut at a store, counted or told. A refused
 -- call is made ready as one with no stores that leaves everything as it was. P is the page size. Assumes nothing.
-use Rattle.std.specs.Prelude.{ℕ, zero, suc, min, List, [], Bool, cond, true, false, length, get_or, Option, Some, None, Result, Ok, Err}
+use Rattle.std.specs.Prelude.{ℕ, zero, suc, min, List, [], cond, true, false, length, get_or, Option, Result, Ok, Err}
 use Rattle.fields.specs.declared.refusal.Refusal.{Refusal}
 use Rattle.fields.specs.Refusals.{number_of}
 use Rattle.fields.specs.Answers.{no_id, no_time}
@@ -20,12 +20,13 @@ use Rattle.stores.specs.declared.Plan.{Plan}
 use Rattle.stores.specs.declared.Kind.TheVariants.{Nothing}
 use Rattle.stores.specs.declared.Telling.{Telling}
 use Rattle.stores.specs.Plans.{steps_of, meant}
-use Rattle.stores.specs.Room.{Carried, carried}
+use Rattle.stores.specs.Room.{Carried, Cut, carried}
 use Rattle.stores.specs.Told.{telling_told, told_at, told_in}
 use Rattle.plans.specs.Planned.{plan_of, no_counters}
 use Rattle.form.specs.declared.Store.{Store}
-use Rattle.form.specs.Store.{world_of, Outcome, outcome}
-use Rattle.ready.specs.declared.Ready as code
+use Rattle.form.specs.Store.{world_of, Changed, Outcome, outcome}
+use Rattle.ready.specs.declared.Ready.{Ready}
+use Rattle.ready.specs.declared.Numbered.{Numbered}
 
 -- ---- made ready
 
@@ -40,27 +41,6 @@ abbrev pub prepared : ℕ → List Step → Store → List ℕ → Prepared
 prepared n ss s frames = record { number = n; steps = ss; store = s; frames = frames }
 
 -- ---- as a value of the code, on these buffers
-
--- the number; the stores; the pages that get their bytes back; whether page 0's frame is written, and its slot; the store
-pub record Ready : Type 0 where
-  pub number : ℕ
-  pub plan : Plan
-  pub back : Picked
-  pub meta : Bool
-  pub slot : ℕ
-  pub store : Store
-
-abbrev pub has_slot : Option ℕ → Bool
-has_slot (Some slot) = true
-has_slot None = false
-
-abbrev pub slot_in : Option ℕ → ℕ
-slot_in (Some slot) = slot
-slot_in None = 0
-
--- what the code makes ready is an accepted call
-abbrev pub accepted : code.Ready → Ready
-accepted r = record { number = 0; plan = r.plan; back = r.back; meta = has_slot r.meta; slot = slot_in r.meta; store = r.store }
 
 abbrev pub meta_of : ℕ → Counters → List ℕ
 meta_of P m = meta_page P m.next.0 m.time.0 m.mark.0
@@ -100,12 +80,22 @@ plain plan u = record { number = 0; plan = plan; back = picked_of 64 []; meta = 
 unfoldable pub with_meta : Plan → Picked → ℕ → Store → Ready
 with_meta plan back slot u = record { number = 0; plan = plan; back = back; meta = true; slot = slot; store = u }
 
+-- one that was not refused has number 0, whatever its value says
+abbrev pub accepted : Ready → Ready
+accepted r = record { number = 0; plan = r.plan; back = r.back; meta = r.meta; slot = r.slot; store = r.store }
+
 -- what making a call on the store s ready answers
-abbrev pub ready_of : Store → Result code.Ready Refusal → Ready
+abbrev pub ready_of : Store → Result Ready Refusal → Ready
 ready_of s (Ok r) = accepted r
 ready_of s (Err e) = idle (number_of e) s
 
--- ---- carried out, cut, counted
+-- ---- carried out, cut, counted: the number, and what is made of the call
+
+abbrev pub changed_as : Numbered Store → Changed
+changed_as x = record { number = x.number; store = x.value }
+
+abbrev pub cut_as : Numbered Lens → Cut
+cut_as x = record { number = x.number; lens = x.value }
 
 unfoldable pub with_lens : Lens → Store → Store
 with_lens n s =
@@ -137,6 +127,9 @@ pub record Counted : Type 0 where
   pub number : ℕ
   pub stores : ℕ
 
+abbrev pub counted_as : Numbered ℕ → Counted
+counted_as x = record { number = x.number; stores = x.value }
+
 abbrev pub counted : Result ℕ Refusal → Counted
 counted (Ok n) = record { number = 0; stores = n }
 counted (Err r) = record { number = number_of r; stores = 0 }
@@ -162,6 +155,9 @@ counted_of r = record { number = r.number; stores = length (steps_of r.plan) }
 pub record ToldCall : Type 0 where
   pub number : ℕ
   pub values : List ℕ
+
+unfoldable pub told_as : Numbered (Option Telling) → ToldCall
+told_as x = record { number = x.number; values = telling_told x.value }
 
 unfoldable pub told_by : Result (Option Telling) Refusal → ToldCall
 told_by (Ok t) = record { number = 0; values = telling_told t }

@@ -28,7 +28,8 @@ use Rattle.form.specs.declared.Store.{Store}
 use Rattle.form.specs.Store.{resident_of, mem_of, world_of, laid_store}
 use Rattle.form.proofs.Arrays.{Sized}
 use Rattle.form.proofs.Front.{front-means, entries-length, touched-length, table_same, frames-same, touched-same}
-use Rattle.ready.specs.Ready.{Ready, readied, meta_of, refill_to, refill, idle}
+use Rattle.ready.specs.declared.Ready.{Ready}
+use Rattle.ready.specs.Ready.{readied, meta_of, refill_to, refill, idle}
 use Rattle.ready.specs.Inside.{ready_for}
 use Rattle.ready.proofs.Prepared.{ready-still}
 use Rattle.settle.specs.Inside.{counters_of, marked_store, sealed_as}

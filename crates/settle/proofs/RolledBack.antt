@@ -39,7 +39,8 @@ use Rattle.form.specs.declared.Store.{Store}
 use Rattle.form.specs.Store.{entries_of, resident_of, touched_of, mem_of, world_of, laid_store}
 use Rattle.form.proofs.Arrays.{Sized}
 use Rattle.form.proofs.Front.{InForm, front-means, touched-length, resident-are, touched-are}
-use Rattle.ready.specs.Ready.{Ready, readied, meta_of, refill, idle}
+use Rattle.ready.specs.declared.Ready.{Ready}
+use Rattle.ready.specs.Ready.{readied, meta_of, refill, idle}
 use Rattle.ready.specs.Inside.{ready_for}
 use Rattle.ready.proofs.Prepared.{ready-still, ready-no}
 use Rattle.settle.specs.Inside.{counters_of, ended_store, raised_by, sealed_as}

@@ -37,7 +37,8 @@ use Rattle.form.specs.declared.Store.{Store}
 use Rattle.form.specs.Store.{entries_of, resident_of, world_of, laid_store}
 use Rattle.form.proofs.Arrays.{Sized, length-first}
 use Rattle.form.proofs.Front.{front-means, entries-are, resident-length, resident-are, frames-same}
-use Rattle.ready.specs.Ready.{Ready, readied, meta_of, refill, files_to, idle, with_meta}
+use Rattle.ready.specs.declared.Ready.{Ready}
+use Rattle.ready.specs.Ready.{readied, meta_of, refill, files_to, idle, with_meta}
 use Rattle.ready.specs.Inside.{remembered, ready_for}
 use Rattle.ready.proofs.Prepared.{some-carried, meta-is, ready-as, front-call, ready-no, ready-short, call-hold}
 use Rattle.settle.specs.Inside.{ended_store, slot_for, sealed_store, unless, sealed_as}

@@ -16,7 +16,8 @@ use Rattle.stores.specs.declared.Plan.{Plan}
 use Rattle.stores.specs.Plans.{meant}
 use Rattle.stores.specs.Room.{number_for}
 use Rattle.form.specs.declared.Store.{Store}
-use Rattle.ready.specs.Ready.{Ready, idle, with_meta}
+use Rattle.ready.specs.declared.Ready.{Ready}
+use Rattle.ready.specs.Ready.{idle, with_meta}
 
 -- the counters that page 0 gets
 abbrev pub counters_of : Store → Counters

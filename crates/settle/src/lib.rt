@@ -108,7 +108,7 @@ fn ready_advance(
 {
     form::check_front(s, log, db, clog, frames)?;
     if mark.0 <= s.mark.0 {
-        return Ok(ready::nothing(s));
+        return Ok(ready::nothing(numbers::ACCEPTED, s));
     }
     let plan = plans::advance_plan(mark, counters_of(s));
     let u = with_mark(s, mark);
@@ -128,7 +128,7 @@ pub fn advance(
     ensures { outcome (changed s result) log.new db.new clog.new frames.new ≡ called 4096 (Advance mark) s log.old db.old clog.old frames.old }
 {
     let r = ready_advance(s, mark, &log[..], &db[..], &clog[..], &frames[..])?;
-    Ok(ready::carry_out(r, log, db, clog, frames))
+    Ok(ready::carry_out(r, log, db, clog, frames).value)
 }
 
 pub fn advance_to(
@@ -143,7 +143,7 @@ pub fn advance_to(
     ensures { cut_of (cut s.lens result) log.new db.new clog.new ≡ called_to 4096 k (Advance mark) s log.old db.old clog.old frames.now }
 {
     let r = ready_advance(s, mark, &log[..], &db[..], &clog[..], frames)?;
-    Ok(ready::cut_at(r, k, log, db, clog, frames))
+    Ok(ready::cut_at(r, k, log, db, clog, frames).value)
 }
 
 pub fn advance_count(
@@ -157,7 +157,7 @@ pub fn advance_count(
     ensures { counted result ≡ counted_for 4096 (Advance mark) s log.now db.now clog.now frames.now }
 {
     let r = ready_advance(s, mark, log, db, clog, frames)?;
-    Ok(ready::count_of(r))
+    Ok(ready::count_of(r).value)
 }
 
 pub fn advance_told(
@@ -172,7 +172,7 @@ pub fn advance_told(
     ensures { told_by result ≡ told_for 4096 k (Advance mark) s log.now db.now clog.now frames.now }
 {
     let r = ready_advance(s, mark, log, db, clog, frames)?;
-    Ok(ready::told_at(r, k))
+    Ok(ready::told_at(r, k).value)
 }
 
 // ---- commit
@@ -188,7 +188,7 @@ fn ready_commit(
 {
     form::check_front(s, log, db, clog, frames)?;
     let Slot::Installed(id) = s.held.slot else {
-        return Ok(ready::nothing(s));
+        return Ok(ready::nothing(numbers::ACCEPTED, s));
     };
     let plan = plans::commit_plan(id, s.held.touched, s.frames, counters_of(s));
     let table = table::with_status(s.table, id, Status::Committed(s.time));
@@ -208,7 +208,7 @@ pub fn commit(
     ensures { outcome (changed s result) log.new db.new clog.new frames.new ≡ called 4096 Commit s log.old db.old clog.old frames.old }
 {
     let r = ready_commit(s, &log[..], &db[..], &clog[..], &frames[..])?;
-    Ok(ready::carry_out(r, log, db, clog, frames))
+    Ok(ready::carry_out(r, log, db, clog, frames).value)
 }
 
 pub fn commit_to(
@@ -222,7 +222,7 @@ pub fn commit_to(
     ensures { cut_of (cut s.lens result) log.new db.new clog.new ≡ called_to 4096 k Commit s log.old db.old clog.old frames.now }
 {
     let r = ready_commit(s, &log[..], &db[..], &clog[..], frames)?;
-    Ok(ready::cut_at(r, k, log, db, clog, frames))
+    Ok(ready::cut_at(r, k, log, db, clog, frames).value)
 }
 
 pub fn commit_count(
@@ -235,7 +235,7 @@ pub fn commit_count(
     ensures { counted result ≡ counted_for 4096 Commit s log.now db.now clog.now frames.now }
 {
     let r = ready_commit(s, log, db, clog, frames)?;
-    Ok(ready::count_of(r))
+    Ok(ready::count_of(r).value)
 }
 
 pub fn commit_told(
@@ -249,7 +249,7 @@ pub fn commit_told(
     ensures { told_by result ≡ told_for 4096 k Commit s log.now db.now clog.now frames.now }
 {
     let r = ready_commit(s, log, db, clog, frames)?;
-    Ok(ready::told_at(r, k))
+    Ok(ready::told_at(r, k).value)
 }
 
 // ---- rollback
@@ -291,7 +291,7 @@ fn ready_rollback(
         return Err(Refusal::BadPage);
     }
     let Slot::Installed(id) = s.held.slot else {
-        return Ok(ready::nothing(s));
+        return Ok(ready::nothing(numbers::ACCEPTED, s));
     };
     let touched = s.held.touched;
     let plan = plans::rollback_plan(id, touched, s.frames, list, counters_of(s));
@@ -314,7 +314,7 @@ pub fn rollback(
     ensures { outcome (changed s result) log.new db.new clog.new frames.new ≡ called 4096 (Rollback list.now) s log.old db.old clog.old frames.old }
 {
     let r = ready_rollback(s, list, &log[..], &db[..], &clog[..], &frames[..])?;
-    Ok(ready::carry_out(r, log, db, clog, frames))
+    Ok(ready::carry_out(r, log, db, clog, frames).value)
 }
 
 pub fn rollback_to(
@@ -329,7 +329,7 @@ pub fn rollback_to(
     ensures { cut_of (cut s.lens result) log.new db.new clog.new ≡ called_to 4096 k (Rollback list.now) s log.old db.old clog.old frames.now }
 {
     let r = ready_rollback(s, list, &log[..], &db[..], &clog[..], frames)?;
-    Ok(ready::cut_at(r, k, log, db, clog, frames))
+    Ok(ready::cut_at(r, k, log, db, clog, frames).value)
 }
 
 pub fn rollback_count(
@@ -343,7 +343,7 @@ pub fn rollback_count(
     ensures { counted result ≡ counted_for 4096 (Rollback list.now) s log.now db.now clog.now frames.now }
 {
     let r = ready_rollback(s, list, log, db, clog, frames)?;
-    Ok(ready::count_of(r))
+    Ok(ready::count_of(r).value)
 }
 
 pub fn rollback_told(
@@ -358,5 +358,5 @@ pub fn rollback_told(
     ensures { told_by result ≡ told_for 4096 k (Rollback list.now) s log.now db.now clog.now frames.now }
 {
     let r = ready_rollback(s, list, log, db, clog, frames)?;
-    Ok(ready::told_at(r, k))
+    Ok(ready::told_at(r, k).value)
 }

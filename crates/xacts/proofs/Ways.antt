@@ -1,7 +1,7 @@
 -- What the functions' proofs cite: lengths in whole pages, what a number that is 0 says, and one law for each way out. Assumes nothing.
 use mathlib.Core.Path.{◌≡◌, refl, sym, ap, ◌∙◌}
 use mathlib.Core.List.{List, ◌++◌}
-use mathlib.Core.Bool.{Bool, false, cond, not}
+use mathlib.Core.Bool.{Bool, true, false, cond, not}
 use Prim.Native.Nat.{ℕ, ◌+◌, ◌-◌, ◌/◌, ◌%◌, ◌≤◌, ◌<◌}
 use native.Mathlib.Nat.{div-add-mod', mod-lt, mul-mod_left}
 use native.Mathlib.Omega.{arith}
@@ -17,7 +17,7 @@ use Rattle.fields.specs.Answers.{outcome, decided}
 use Rattle.fields.proofs.Tests.{passed}
 use Rattle.fields.proofs.Lists.{drop-take}
 use Rattle.fields.proofs.Stored.{laid_next}
-use Rattle.fields.proofs.AnswerLaws.{outcome-refused, outcome-accepted}
+use Rattle.fields.proofs.AnswerLaws.{number-positive, outcome-refused, outcome-accepted}
 use Rattle.clog.specs.Slots.{codes}
 use Rattle.clog.specs.Calls.{unfit}
 use Rattle.clog.proofs.Refusals.{fit-means}
@@ -87,6 +87,23 @@ module _ (Q mark : ℕ) (clog : List ℕ) (len size : ℕ) (fit : unfit 8 (lengt
       let n : length (status_pages Q mark (body_of (file_of clog len))) ≡ end =
       length-pages Q mark (body_of (file_of clog len)) whole ∙ ap (whole_pages Q) (length-slice 8 len clog f.1) ∙ sym is in
       rw (l, h, lent-body, fit, n)
+
+-- ---- the tests of reading
+
+pub read-tests : (Q : ℕ) (pages : List ℕ) (size : ℕ) (found : Bool) → found ≡ has 3 (codes pages)
+    → cond (not (eqb (length pages % Q) 0)) 21 (cond found 20 (cond (ltb size (length pages)) 13 0)) ≡ read_no Q pages size
+unfolding read_no
+read-tests Q pages size found h = rw h
+
+-- ---- one test after the other
+
+pub first-told : (b : Bool) (e : Refusal) (n rest : ℕ) → number_of e ≡ cond b n 0 → number_of e ≡ cond b n rest
+first-told true e n rest h = h
+first-told false e n rest h = absurd (omega (arith, number-positive e, h))
+
+pub rest-told : (b : Bool) (n rest : ℕ) → 0 < n → 0 ≡ cond b n 0 → rest ≡ cond b n rest
+rest-told true n rest p h = absurd (omega (arith, p, h))
+rest-told false n rest p h = refl
 
 -- ---- the ways out
 

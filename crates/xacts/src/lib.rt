@@ -3,10 +3,10 @@
 // nothing, and once to write; in a pass each byte is looked at once, whatever its slots are.
 #![tactic(auto)]
 
-ghost use Rattle.std.specs.Prelude.{◌≡◌, ◌-◌, ◌≤◌, ◌<◌, length, drop};
+ghost use Rattle.std.specs.Prelude.{◌≡◌, cond, ◌-◌, ◌≤◌, ◌<◌, length, drop};
 ghost use Rattle.std.proofs.lemmas.List.Edits.{sets};
 ghost use Rattle.fields.specs.Files.{file_of};
-ghost use Rattle.fields.specs.Refusals.{number_in};
+ghost use Rattle.fields.specs.Refusals.{number_of, number_in};
 ghost use Rattle.fields.specs.Answers.{outcome};
 ghost use Rattle.clog.specs.Slots.{codes};
 ghost use Rattle.xacts.specs.Pages.{written_as, read_as, byte_of, byte_made, remade, whole_pages, body_from};
@@ -115,6 +115,13 @@ fn has_slot(c: u8, w: u64, s: &[u8]) -> bool
 
 // ---- the refusals
 
+// The refusal where the test holds.
+fn refuse_if(test: bool, refusal: Refusal) -> Result<(), Refusal>
+    ensures { number_in result ≡ cond test (number_of refusal) 0 }
+{
+    if test { Err(refusal) } else { Ok(()) }
+}
+
 fn whole_pages(n: usize) -> usize
     requires { n ≤ 1048576 }
     ensures { result ≡ whole_pages 8192 n }
@@ -128,28 +135,19 @@ fn check_write(clog: &[u8], len: usize, mark: u64, size: usize) -> Result<(), Re
     if clog::bad_length(numbers::HEADER, clog.len(), len) {
         return Err(Refusal::Unfit);
     }
-    if has_slot(ACTIVE, mark, &clog[numbers::HEADER..len]) {
-        return Err(Refusal::ActiveAbove);
-    }
-    if size < whole_pages(len - numbers::HEADER) {
-        return Err(Refusal::SliceShort);
-    }
-    Ok(())
+    let active = has_slot(ACTIVE, mark, &clog[numbers::HEADER..len]);
+    let short = size < whole_pages(len - numbers::HEADER);
+    refuse_if(active, Refusal::ActiveAbove)?;
+    refuse_if(short, Refusal::SliceShort)
 }
 
 fn check_read(pages: &[u8], size: usize) -> Result<(), Refusal>
     ensures { number_in result ≡ read_no 8192 pages.now size }
 {
-    if pages.len() % numbers::STATUS_PAGE != 0 {
-        return Err(Refusal::PartOfPage);
-    }
-    if has_slot(PAGE_SUB_COMMITTED, 0, pages) {
-        return Err(Refusal::SubCommitted);
-    }
-    if size < pages.len() {
-        return Err(Refusal::SliceShort);
-    }
-    Ok(())
+    refuse_if(pages.len() % numbers::STATUS_PAGE != 0, Refusal::PartOfPage)?;
+    let sub_committed = has_slot(PAGE_SUB_COMMITTED, 0, pages);
+    refuse_if(sub_committed, Refusal::SubCommitted)?;
+    refuse_if(size < pages.len(), Refusal::SliceShort)
 }
 
 // ---- the passes that write

@@ -2,10 +2,10 @@
 use Rattle.acts.specs.Made.{resident_after}
 use Rattle.acts.proofs.change_resident.Goals as goal
 
-pub returns-in-Some : goal.returns-in-Some
+pub returns-then-meta : goal.returns-then-meta
 unfolding resident_after
-returns-in-Some c = rw c.in-Some.is c.seat.ensures
+returns-then-meta c = rw c.if-meta.true c.seat.ensures
 
-pub returns-in-None : goal.returns-in-None
+pub returns-else-meta : goal.returns-else-meta
 unfolding resident_after
-returns-in-None c = rw c.in-None.is
+returns-else-meta c = rw c.if-meta.false

@@ -4,4 +4,4 @@ use Rattle.acts.proofs.count_of.Goals as goal
 
 pub returns : goal.returns
 unfolding counted_made
-returns c = rw c.count.ensures
+returns c = rw c.count-value.ensures

@@ -1,9 +1,7 @@
 -- `begins::begin_to` meets its contract: refused, or made ready and cut. Assumes nothing.
-use mathlib.Core.Path.{◌∙◌}
 use Rattle.world.specs.Calls.{Begin}
 use Rattle.lent.specs.Lent.{lent}
-use Rattle.acts.specs.Made.{accepted}
-use Rattle.acts.proofs.Laws.{refused-cut, cut-called}
+use Rattle.acts.proofs.Laws.{refused-cut, accepted-cut}
 use Rattle.begins.proofs.begin_to.Goals as goal
 
 pub returns-in_err-m : goal.returns-in_err-m
@@ -14,4 +12,5 @@ returns-in_err-m c =
 pub returns : goal.returns
 returns c =
     let a = c.args in
-    c.cut_at.ensures ∙ cut-called 4096 (Begin a.id) (lent a.h a.rows.now a.resident.now a.touched.now) a.log.now a.db.now a.clog.now a.frames.now (accepted c.in_ok-m.m) c.in_ok-m.ensures a.k
+    let k = c.cut_at in
+    accepted-cut 4096 (Begin a.id) (lent a.h a.rows.now a.resident.now a.touched.now) a.log.now a.db.now a.clog.now a.frames.now c.in_ok-m.m c.in_ok-m.ensures a.k k.result k.new.log k.new.db k.new.clog k.ensures

@@ -14,4 +14,4 @@ returns-in-Err c =
 pub returns-in-Ok : goal.returns-in-Ok
 returns-in-Ok c =
     let a = c.args in
-    accepted-left 4096 (Flush a.page) (lent a.h a.rows.now a.resident.now a.touched.now) a.log.now a.db.now a.clog.now a.frames.now _ c.in-Ok.ensures _ c.carry_out.ensures
+    accepted-left 4096 (Flush a.page) (lent a.h a.rows.now a.resident.now a.touched.now) a.log.now a.db.now a.clog.now a.frames.now c.in-Ok.m c.in-Ok.ensures _ c.carry_out.ensures

@@ -1,9 +1,7 @@
 -- `begins::flush_count` meets its contract: refused, or made ready and counted. Assumes nothing.
-use mathlib.Core.Path.{◌∙◌}
 use Rattle.world.specs.Calls.{Flush}
 use Rattle.lent.specs.Lent.{lent}
-use Rattle.acts.specs.Made.{accepted}
-use Rattle.acts.proofs.Laws.{refused-count, count-called}
+use Rattle.acts.proofs.Laws.{refused-count, accepted-count}
 use Rattle.begins.proofs.flush_count.Goals as goal
 
 pub returns-in_err-m : goal.returns-in_err-m
@@ -14,4 +12,4 @@ returns-in_err-m c =
 pub returns : goal.returns
 returns c =
     let a = c.args in
-    c.count_of.ensures ∙ count-called 4096 (Flush a.page) (lent a.h a.rows.now a.resident.now a.touched.now) a.log.now a.db.now a.clog.now a.frames.now (accepted c.in_ok-m.m) c.in_ok-m.ensures
+    accepted-count 4096 (Flush a.page) (lent a.h a.rows.now a.resident.now a.touched.now) a.log.now a.db.now a.clog.now a.frames.now c.in_ok-m.m c.in_ok-m.ensures c.count_of.result c.count_of.ensures

@@ -1,7 +1,7 @@
 -- `begins::marked` meets its contract: 11, or with one page more. Assumes nothing.
 use mathlib.Core.Path.{refl}
 use Rattle.fields.specs.Refusals.{number_of}
-use Rattle.acts.proofs.Laws.{handed-made}
+use Rattle.acts.proofs.Laws.{handed-made, bare-accepted}
 use Rattle.begins.proofs.Flushed.{marked-full, marked-fine}
 use Rattle.begins.proofs.marked.Goals as goal
 
@@ -14,4 +14,4 @@ returns-in_err-check_mark c =
 pub returns : goal.returns
 returns c =
     let a = c.args in
-    marked-fine a.h a.touched.now a.page _ c.in_ok-check_mark.ensures _ c.bare.ensures refl
+    marked-fine a.h a.touched.now a.page _ c.in_ok-check_mark.ensures _ (bare-accepted _ _ _ c.bare.ensures) refl

@@ -5,7 +5,7 @@ use Rattle.world.specs.Calls.{Begin}
 use Rattle.lent.specs.Lent.{lent}
 use Rattle.lent.proofs.Laws.{front-passed}
 use Rattle.ready.proofs.Prepared.{no-zero}
-use Rattle.acts.proofs.Laws.{handed-made, made-front}
+use Rattle.acts.proofs.Laws.{handed-made, made-front, plain-accepted}
 use Rattle.begins.proofs.Begun.{begin-short-made, begin-7-made, begin-made}
 use Rattle.begins.proofs.ready_begin.Goals as goal
 
@@ -33,4 +33,4 @@ returns c =
     let a = c.args in
     let p = front-passed 4096 (lent a.h a.rows.now a.resident.now a.touched.now) a.log.now a.db.now a.clog.now a.frames.now 0 c.in_ok-check_front.ensures refl in
     begin-made 4096 (lent a.h a.rows.now a.resident.now a.touched.now) (record { rows = search rules; resident = search rules; touched = search rules }) a.id a.log.now a.db.now a.clog.now a.frames.now p.0 p.1 c.begin_plan-plan.result c.begin_plan-plan.ensures
-    _ c.in_ok-check_room.ensures _ c.in_ok-check_table.ensures c.with_begun-after.result c.with_begun-after.ensures c.plain_call.ensures refl
+    _ c.in_ok-check_room.ensures _ c.in_ok-check_table.ensures c.with_begun-after.result c.with_begun-after.ensures (plain-accepted _ _ _ _ c.plain_call.ensures) refl

@@ -5,7 +5,7 @@ use Rattle.world.specs.Calls.{Flush}
 use Rattle.lent.specs.Lent.{lent}
 use Rattle.lent.proofs.Laws.{front-passed}
 use Rattle.ready.proofs.Prepared.{no-zero}
-use Rattle.acts.proofs.Laws.{handed-made, made-front}
+use Rattle.acts.proofs.Laws.{handed-made, made-front, bare-accepted, plain-accepted}
 use Rattle.begins.proofs.Flushed.{flush-10-made, flush-in-made, flush-absent-made, flush-short-made, flush-made}
 use Rattle.begins.proofs.ready_flush.Goals as goal
 
@@ -31,7 +31,7 @@ returns-in_default c =
     let a = c.args in
     let p = front-passed 4096 (lent a.h a.rows.now a.resident.now a.touched.now) a.log.now a.db.now a.clog.now a.frames.now 0 c.in_ok-check_front.ensures refl in
     flush-absent-made 4096 (lent a.h a.rows.now a.resident.now a.touched.now) (record { rows = search rules; resident = search rules; touched = search rules }) a.page a.log.now a.db.now a.clog.now a.frames.now p.0 p.1 _ c.if-page-ge-NO_PAGE.false c.if-h-eq1.false c.find.result c.find.ensures
-    c.bare.ensures c.in_default.is
+    (bare-accepted _ _ _ c.bare.ensures) c.in_default.is
 
 pub returns-in_err-check_room : goal.returns-in_err-check_room
 returns-in_err-check_room c =
@@ -45,4 +45,4 @@ returns c =
     let a = c.args in
     let p = front-passed 4096 (lent a.h a.rows.now a.resident.now a.touched.now) a.log.now a.db.now a.clog.now a.frames.now 0 c.in_ok-check_front.ensures refl in
     flush-made 4096 (lent a.h a.rows.now a.resident.now a.touched.now) (record { rows = search rules; resident = search rules; touched = search rules }) a.page a.log.now a.db.now a.clog.now a.frames.now p.0 p.1 _ c.if-page-ge-NO_PAGE.false c.if-h-eq1.false c.find.result c.find.ensures
-    c.in-Some.slot c.in-Some.is c.flush_plan-plan.result c.flush_plan-plan.ensures 0 c.in_ok-check_room.ensures c.plain_call.ensures refl
+    c.in-Some.slot c.in-Some.is c.flush_plan-plan.result c.flush_plan-plan.ensures 0 c.in_ok-check_room.ensures (plain-accepted _ _ _ _ c.plain_call.ensures) refl

@@ -1,10 +1,8 @@
 -- `calls::begin_told` meets its contract: refused, or made ready and told. Assumes nothing.
 use native.Mathlib.Omega.{arith}
-use Rattle.std.specs.Prelude.{Ok}
 use Rattle.world.specs.Calls.{Begin}
 use Rattle.fields.proofs.AnswerLaws.{handed-on}
-use Rattle.ready.specs.Ready.{accepted}
-use Rattle.ready.proofs.ToldLaws.{told-done, refused-told}
+use Rattle.ready.proofs.ToldLaws.{accepted-told, refused-told}
 use Rattle.calls.proofs.begin_told.Goals as goal
 
 pub returns-in_err-r : goal.returns-in_err-r
@@ -15,4 +13,4 @@ returns-in_err-r c =
 pub returns : goal.returns
 returns c =
     let a = c.args in
-    told-done 4096 (omega arith) a.k (Begin a.id) a.s a.log.now a.db.now a.clog.now a.frames.now (accepted c.in_ok-r.r) (Ok c.told_at.result) c.in_ok-r.ensures c.told_at.ensures
+    accepted-told 4096 (omega arith) a.k (Begin a.id) a.s a.log.now a.db.now a.clog.now a.frames.now c.in_ok-r.r c.in_ok-r.ensures c.told_at.result c.told_at.ensures

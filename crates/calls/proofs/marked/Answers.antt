@@ -5,7 +5,7 @@ use Rattle.fields.proofs.AnswerLaws.{handed-on}
 use Rattle.frames.specs.Pages.{marked_of}
 use Rattle.form.specs.Store.{with_array}
 use Rattle.ready.specs.Ready.{ready_of, accepted}
-use Rattle.ready.proofs.Prepared.{no-zero}
+use Rattle.ready.proofs.Prepared.{no-zero, nothing-accepted}
 use Rattle.calls.proofs.Flushed.{marked-full, marked-fine}
 use Rattle.calls.proofs.marked.Goals as goal
 
@@ -20,4 +20,4 @@ unfolding with_array
 returns c =
     let a = c.args in
     let t = c.in_ok-touched in
-    marked-fine a.s a.page (marked_of a.s.held.touched (Ok t.touched)) t.ensures (accepted c.nothing.result) c.nothing.ensures refl
+    marked-fine a.s a.page (marked_of a.s.held.touched (Ok t.touched)) t.ensures (accepted c.nothing.result) (nothing-accepted _ _ c.nothing.ensures) refl

@@ -7,7 +7,7 @@ use Rattle.sorted.proofs.Laws.{length-of-mapped}
 use Rattle.table.specs.Entries.{inserted_of}
 use Rattle.world.specs.Calls.{Begin}
 use Rattle.ready.specs.Ready.{ready_of, accepted}
-use Rattle.ready.proofs.Prepared.{no-zero, ready-front}
+use Rattle.ready.proofs.Prepared.{no-zero, ready-front, plain-accepted}
 use Rattle.calls.proofs.Begun.{begin-short, begin-7, begin-out}
 use Rattle.calls.proofs.ready_begin.Goals as goal
 
@@ -36,4 +36,4 @@ returns c =
     let a = c.args in
     let t = c.in_ok-table in
     begin-out 4096 a.id a.s a.log.now a.db.now a.clog.now a.frames.now (sym c.in_ok-check_front.ensures) c.begin_plan-plan.result c.begin_plan-plan.ensures (record { entries = search (rules, length-of-mapped); pages = search rules; touched = search rules })
-    c.in_ok-check_room.ensures (inserted_of a.s.table (Ok t.table)) t.ensures refl (accepted c.plain_call.result) c.with_begun.result c.with_begun.ensures c.plain_call.ensures
+    c.in_ok-check_room.ensures (inserted_of a.s.table (Ok t.table)) t.ensures refl (accepted c.plain_call.result) c.with_begun.result c.with_begun.ensures (plain-accepted _ _ _ c.plain_call.ensures)

@@ -6,7 +6,7 @@ use Rattle.fields.proofs.AnswerLaws.{handed-on}
 use Rattle.sorted.proofs.Laws.{length-of-mapped}
 use Rattle.world.specs.Calls.{Flush}
 use Rattle.ready.specs.Ready.{ready_of, accepted}
-use Rattle.ready.proofs.Prepared.{no-zero, ready-front}
+use Rattle.ready.proofs.Prepared.{no-zero, ready-front, nothing-accepted, plain-accepted}
 use Rattle.calls.proofs.Flushed.{flush-10, flush-in, flush-absent, flush-short, flush-out}
 use Rattle.calls.proofs.ready_flush.Goals as goal
 
@@ -31,7 +31,7 @@ pub returns-in_default : goal.returns-in_default
 returns-in_default c =
     let a = c.args in
     flush-absent 4096 a.page a.s a.log.now a.db.now a.clog.now a.frames.now (sym c.in_ok-check_front.ensures) c.if-page-ge-NO_PAGE.false (record { entries = search (rules, length-of-mapped); pages = search rules; touched = search rules }) (sym c.is_installed.ensures ∙ c.if-is_installed.false) c.find.result c.find.ensures
-    (accepted c.nothing.result) c.nothing.ensures c.in_default.is
+    (accepted c.nothing.result) (nothing-accepted _ _ c.nothing.ensures) c.in_default.is
 
 pub returns-in_err-check_room : goal.returns-in_err-check_room
 returns-in_err-check_room c =
@@ -46,4 +46,4 @@ returns c =
     let a = c.args in
     flush-out 4096 a.page a.s a.log.now a.db.now a.clog.now a.frames.now (sym c.in_ok-check_front.ensures) c.if-page-ge-NO_PAGE.false (record { entries = search (rules, length-of-mapped); pages = search rules; touched = search rules }) (sym c.is_installed.ensures ∙ c.if-is_installed.false) c.find.result c.find.ensures
     c.in-Some.at c.in-Some.is c.flush_plan-plan.result c.flush_plan-plan.ensures 0 c.in_ok-check_room.ensures
-    (accepted c.plain_call.result) c.plain_call.ensures refl
+    (accepted c.plain_call.result) (plain-accepted _ _ _ c.plain_call.ensures) refl

@@ -1,10 +1,8 @@
 -- `ends::advance_told` meets its contract: refused, or made ready and told. Assumes nothing.
 use native.Mathlib.Omega.{arith}
-use Rattle.std.specs.Prelude.{Ok}
 use Rattle.world.specs.Calls.{Advance}
 use Rattle.lent.specs.Lent.{lent}
-use Rattle.acts.specs.Made.{accepted}
-use Rattle.acts.proofs.Laws.{refused-told, told-called}
+use Rattle.acts.proofs.Laws.{refused-told, accepted-told}
 use Rattle.ends.proofs.advance_told.Goals as goal
 
 pub returns-in_err-m : goal.returns-in_err-m
@@ -15,4 +13,4 @@ returns-in_err-m c =
 pub returns : goal.returns
 returns c =
     let a = c.args in
-    told-called 4096 (Advance a.mark) (lent a.h a.rows.now a.resident.now a.touched.now) a.log.now a.db.now a.clog.now a.frames.now (accepted c.in_ok-m.m) c.in_ok-m.ensures (omega arith) a.k (Ok c.told_at.result) c.told_at.ensures
+    accepted-told 4096 (Advance a.mark) (lent a.h a.rows.now a.resident.now a.touched.now) a.log.now a.db.now a.clog.now a.frames.now c.in_ok-m.m c.in_ok-m.ensures (omega arith) a.k c.told_at.result c.told_at.ensures

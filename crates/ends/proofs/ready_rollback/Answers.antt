@@ -6,7 +6,7 @@ use Rattle.world.specs.Calls.{Rollback}
 use Rattle.lent.specs.Lent.{lent}
 use Rattle.lent.proofs.Laws.{front-passed}
 use Rattle.ready.proofs.Prepared.{no-zero}
-use Rattle.acts.proofs.Laws.{handed-made, made-front}
+use Rattle.acts.proofs.Laws.{handed-made, made-front, bare-accepted}
 use Rattle.ends.proofs.RolledBack.{rollback-10-made, rollback-none-made, rollback-made}
 use Rattle.ends.proofs.ready_rollback.Goals as goal
 
@@ -25,7 +25,7 @@ pub returns-then-h-ne1 : goal.returns-then-h-ne1
 returns-then-h-ne1 c =
     let a = c.args in
     let p = front-passed 4096 (lent a.h a.rows.now a.resident.now a.touched.now) a.log.now a.db.now a.clog.now a.frames.now 0 c.in_ok-check_front.ensures refl in
-    rollback-none-made 4096 (lent a.h a.rows.now a.resident.now a.touched.now) (record { rows = search rules; resident = search rules; touched = search rules }) a.list.now a.log.now a.db.now a.clog.now a.frames.now p.0 p.1 _ (sym c.any_bad.ensures ∙ c.if-any_bad.false) c.if-h-ne1.true c.bare.ensures
+    rollback-none-made 4096 (lent a.h a.rows.now a.resident.now a.touched.now) (record { rows = search rules; resident = search rules; touched = search rules }) a.list.now a.log.now a.db.now a.clog.now a.frames.now p.0 p.1 _ (sym c.any_bad.ensures ∙ c.if-any_bad.false) c.if-h-ne1.true (bare-accepted _ _ _ c.bare.ensures)
 
 pub returns : goal.returns
 returns c =

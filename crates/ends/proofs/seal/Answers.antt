@@ -7,7 +7,7 @@ use Rattle.fields.specs.Refusals.{number_of, number_in}
 use Rattle.ready.proofs.Prepared.{no-zero}
 use Rattle.acts.specs.declared.Change.TheVariants.{Same}
 use Rattle.acts.specs.Made.{bare_made, accepted}
-use Rattle.acts.proofs.Laws.{handed-made}
+use Rattle.acts.proofs.Laws.{handed-made, meta-accepted}
 use Rattle.ends.specs.Inside.{ending_of}
 use Rattle.ends.proofs.Sealed.{seal-short, seal-table, seal-seat, seal-out}
 use Rattle.ends.proofs.seal.Goals as goal
@@ -41,4 +41,4 @@ returns c =
     let e = ap (λ (r : Result Unit Refusal). number_in r) c.in_ok-x.was in
     seal-out 4096 a.h a.resident.now (ending_of a.x) a.log.now a.db.now a.clog.now a.frames.now
     (accepted c.meta_call.result) 0 c.in_ok-check_room.ensures refl e _ c.in_ok-check_seat.ensures
-    c.slot_for-slot.result c.max-pages.result refl c.slot_for-slot.ensures c.max-pages.ensures c.meta_call.ensures
+    c.slot_for-slot.result c.max-pages.result refl c.slot_for-slot.ensures c.max-pages.ensures (meta-accepted _ _ _ _ _ _ c.meta_call.ensures)

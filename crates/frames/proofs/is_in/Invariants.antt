@@ -6,4 +6,4 @@ use Rattle.frames.specs.Pages.{is_in}
 use Rattle.frames.proofs.is_in.Given as goal
 
 abbrev pub invariant-loop-x : goal.invariant-loop-x
-invariant-loop-x l = (l.found || is_in l.page (drop l.x-index l.pages)) ≡ is_in l.page l.pages
+invariant-loop-x l = (l.found || is_in l.page (drop l.x-index l.x-items)) ≡ is_in l.page l.x-items

@@ -1,8 +1,6 @@
 -- `ready::carry_out` meets its contract: the stores, the pages that get their bytes back, page 0. Assumes nothing.
-use Rattle.std.specs.Prelude.{Ok}
 use Rattle.fields.specs.Files.{file_of}
-use Rattle.stores.specs.Room.{cut}
-use Rattle.ready.specs.Ready.{accepted, with_lens}
+use Rattle.ready.specs.Ready.{cut_as, with_lens}
 use Rattle.ready.proofs.Prepared.{framed-out, carried-done}
 use Rattle.ready.proofs.carry_out.Goals as goal
 
@@ -10,9 +8,9 @@ pub returns : goal.returns
 unfolding with_lens
 returns c =
     let a = c.args in
-    let k = c.cut_at-lens in
+    let k = c.cut_at in
     let g = c.give_back in
     let f = c.lay_meta in
-    let fine = framed-out 4096 (file_of k.new.db k.result.db) a.r a.frames.now g.new.frames f.new.frames g.ensures f.ensures in
-    carried-done 4096 (accepted a.r) a.frames.now a.log.now a.db.now a.clog.now (cut a.r.store.lens (Ok k.result)) k.new.log k.new.db k.new.clog
+    let fine = framed-out 4096 (file_of k.new.db k.result.value.db) a.r a.frames.now g.new.frames f.new.frames g.ensures f.ensures in
+    carried-done 4096 a.r a.frames.now a.log.now a.db.now a.clog.now (cut_as k.result) k.new.log k.new.db k.new.clog
     f.new.frames k.ensures fine

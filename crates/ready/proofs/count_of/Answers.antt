@@ -4,4 +4,4 @@ use Rattle.ready.proofs.count_of.Goals as goal
 
 pub returns : goal.returns
 unfolding counted_of
-returns c = rw c.count.ensures
+returns c = rw c.count-value.ensures

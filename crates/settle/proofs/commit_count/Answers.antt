@@ -1,9 +1,7 @@
 -- `settle::commit_count` meets its contract: refused, or made ready and counted. Assumes nothing.
-use Rattle.std.specs.Prelude.{Ok}
 use Rattle.world.specs.Calls.{Commit}
 use Rattle.fields.proofs.AnswerLaws.{handed-on}
-use Rattle.ready.specs.Ready.{accepted, counted}
-use Rattle.ready.proofs.Prepared.{counted-done, refused-count}
+use Rattle.ready.proofs.Prepared.{accepted-count, refused-count}
 use Rattle.settle.proofs.commit_count.Goals as goal
 
 pub returns-in_err-r : goal.returns-in_err-r
@@ -14,4 +12,4 @@ returns-in_err-r c =
 pub returns : goal.returns
 returns c =
     let a = c.args in
-    counted-done 4096 Commit a.s a.log.now a.db.now a.clog.now a.frames.now (accepted c.in_ok-r.r) (counted (Ok c.count_of.result)) c.in_ok-r.ensures c.count_of.ensures
+    accepted-count 4096 Commit a.s a.log.now a.db.now a.clog.now a.frames.now c.in_ok-r.r c.in_ok-r.ensures c.count_of.result c.count_of.ensures

@@ -7,7 +7,7 @@ use Rattle.sorted.proofs.Laws.{length-of-mapped}
 use Rattle.world.specs.Calls.{Advance}
 use Rattle.form.specs.declared.Store.{Store}
 use Rattle.ready.specs.Ready.{ready_of, accepted}
-use Rattle.ready.proofs.Prepared.{no-zero, ready-front}
+use Rattle.ready.proofs.Prepared.{no-zero, ready-front, nothing-accepted}
 use Rattle.settle.specs.Inside.{with_table, marked_store}
 use Rattle.settle.proofs.Advanced.{advance-low, advance-out}
 use Rattle.settle.proofs.ready_advance.Goals as goal
@@ -21,7 +21,7 @@ returns-in_err-check_front c =
 pub returns-then-mark-s : goal.returns-then-mark-s
 returns-then-mark-s c =
     let a = c.args in
-    advance-low 4096 a.mark a.s a.log.now a.db.now a.clog.now a.frames.now (sym c.in_ok-check_front.ensures) (record { entries = search (rules, length-of-mapped); pages = search rules; touched = search rules }) (accepted c.nothing.result) c.if-mark-s.true c.nothing.ensures
+    advance-low 4096 a.mark a.s a.log.now a.db.now a.clog.now a.frames.now (sym c.in_ok-check_front.ensures) (record { entries = search (rules, length-of-mapped); pages = search rules; touched = search rules }) (accepted c.nothing.result) c.if-mark-s.true (nothing-accepted _ _ c.nothing.ensures)
 
 pub returns : goal.returns
 unfolding marked_store

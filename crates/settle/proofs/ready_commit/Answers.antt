@@ -8,7 +8,7 @@ use Rattle.table.specs.Entries.{inserted_of}
 use Rattle.world.specs.Calls.{Commit}
 use Rattle.form.specs.declared.Store.{Store}
 use Rattle.ready.specs.Ready.{ready_of, accepted}
-use Rattle.ready.proofs.Prepared.{no-zero, ready-front}
+use Rattle.ready.proofs.Prepared.{no-zero, ready-front, nothing-accepted}
 use Rattle.settle.specs.Inside.{with_table, ended_store}
 use Rattle.settle.proofs.Committed.{commit-none, commit-out}
 use Rattle.settle.proofs.ready_commit.Goals as goal
@@ -22,7 +22,7 @@ returns-in_err-check_front c =
 pub returns-in_default : goal.returns-in_default
 returns-in_default c =
     let a = c.args in
-    commit-none 4096 a.s a.log.now a.db.now a.clog.now a.frames.now (sym c.in_ok-check_front.ensures) (record { entries = search (rules, length-of-mapped); pages = search rules; touched = search rules }) (accepted c.nothing.result) c.in_default.is c.nothing.ensures
+    commit-none 4096 a.s a.log.now a.db.now a.clog.now a.frames.now (sym c.in_ok-check_front.ensures) (record { entries = search (rules, length-of-mapped); pages = search rules; touched = search rules }) (accepted c.nothing.result) c.in_default.is (nothing-accepted _ _ c.nothing.ensures)
 
 pub returns : goal.returns
 unfolding ended_store

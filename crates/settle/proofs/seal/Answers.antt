@@ -6,7 +6,7 @@ use Rattle.fields.proofs.AnswerLaws.{handed-on}
 use Rattle.table.specs.Entries.{inserted_of}
 use Rattle.frames.specs.Pages.{seated_of}
 use Rattle.ready.specs.Ready.{ready_of, accepted}
-use Rattle.ready.proofs.Prepared.{no-zero}
+use Rattle.ready.proofs.Prepared.{no-zero, meta-accepted}
 use Rattle.settle.specs.Inside.{with_table}
 use Rattle.settle.proofs.Sealed.{seal-short, seal-table, seal-seat, seal-out}
 use Rattle.settle.proofs.seal.Goals as goal
@@ -43,4 +43,4 @@ returns c =
     let t = inserted_of a.s.table (Ok c.in_ok-table.table) in
     rw c.in_ok-table.was
     (seal-out 4096 a.s (with_table a.u t.table) t.number a.plan a.back a.log.now a.db.now a.clog.now a.frames.now (accepted c.meta_call.result) 0 c.in_ok-check_room.ensures refl refl
-    (seated_of a.s.frames (Ok c.in_ok-more.more)) c.in_ok-more.ensures c.slot_for-slot.result c.max.result refl c.slot_for-slot.ensures c.max.ensures c.meta_call.ensures)
+    (seated_of a.s.frames (Ok c.in_ok-more.more)) c.in_ok-more.ensures c.slot_for-slot.result c.max.result refl c.slot_for-slot.ensures c.max.ensures (meta-accepted _ _ _ _ _ c.meta_call.ensures))

@@ -1,21 +1,23 @@
 -- `xacts::check_read` meets its contract: the tests in the definition's order. Assumes nothing.
-use mathlib.Core.Path.{sym, ◌∙◌}
-use borrow.Author.Tests.{lt-ltb, le-ltb, eq-eqb, ne_eqb}
+use mathlib.Core.Path.{◌∙◌}
+use lib.Dec.{lit<}
+use Rattle.clog.proofs.Ways.{handed-on}
 use Rattle.xacts.specs.Calls.{read_no}
+use Rattle.xacts.proofs.Ways.{first-told, rest-told, read-tests}
 use Rattle.xacts.proofs.check_read.Goals as goal
 
-pub returns-then-pages-ne0 : goal.returns-then-pages-ne0
+pub returns-in_err-refuse_if : goal.returns-in_err-refuse_if
 unfolding read_no
-returns-then-pages-ne0 c = rw (ne_eqb _ 0 c.if-pages-ne0.true)
+returns-in_err-refuse_if c = rw (handed-on _ _ c.from_residual.ensures.1) (first-told _ _ 21 _ c.in_err-refuse_if.ensures)
 
-pub returns-then-has_slot : goal.returns-then-has_slot
-unfolding read_no
-returns-then-has_slot c = rw (eq-eqb _ 0 c.if-pages-ne0.false, sym c.has_slot.ensures ∙ c.if-has_slot.true)
-
-pub returns-then-size-pages : goal.returns-then-size-pages
-unfolding read_no
-returns-then-size-pages c = rw (eq-eqb _ 0 c.if-pages-ne0.false, sym c.has_slot.ensures ∙ c.if-has_slot.false, lt-ltb _ _ c.if-size-pages.true)
+pub returns-in_err-refuse_if-2 : goal.returns-in_err-refuse_if-2
+returns-in_err-refuse_if-2 c =
+    let a = c.args in
+    rw (handed-on _ _ c.from_residual-in_err-refuse_if-2.ensures.1) (first-told _ _ 20 _ c.in_err-refuse_if-2.ensures
+    ∙ rest-told _ 21 _ (lit< tt) c.in_ok-refuse_if.ensures ∙ read-tests 8192 a.pages.now a.size _ c.has_slot-sub_committed.ensures)
 
 pub returns : goal.returns
-unfolding read_no
-returns c = rw (eq-eqb _ 0 c.if-pages-ne0.false, sym c.has_slot.ensures ∙ c.if-has_slot.false, le-ltb _ _ c.if-size-pages.false)
+returns c =
+    let a = c.args in
+    c.refuse_if-3.ensures ∙ rest-told _ 20 _ (lit< tt) c.in_ok-refuse_if-2.ensures
+    ∙ rest-told _ 21 _ (lit< tt) c.in_ok-refuse_if.ensures ∙ read-tests 8192 a.pages.now a.size _ c.has_slot-sub_committed.ensures
