@@ -31,11 +31,11 @@ left-same rows rows' resident resident' touched touched' log log' db db' clog cl
     (replied-same g h a b p.0, p.1, p.2, p.3, p.4, p.5)
 
 -- the same of a call of any number, as it was made ready
-pub numbered-same : (rows rows' : List (List ℕ)) (resident resident' touched touched' log log' db db' clog clog' frames frames' : List ℕ) (a b : Numbered Head) (o : Left) →
+pub carried-lent-same : (rows rows' : List (List ℕ)) (resident resident' touched touched' log log' db db' clog clog' frames frames' : List ℕ) (a b : Numbered Head) (o : Left) →
     leaving a.number (lent a.value rows resident touched) log db clog frames ≡ o →
     leaving b.number (lent b.value rows' resident' touched') log' db' clog' frames' ≡ o →
     (a ≡ b) × SameArrays rows rows' resident resident' touched touched' × (log ≡ log') × (db ≡ db') × (clog ≡ clog') × (frames ≡ frames')
-numbered-same rows rows' resident resident' touched touched' log log' db db' clog clog' frames frames' a b o e f =
+carried-lent-same rows rows' resident resident' touched touched' log log' db db' clog clog' frames frames' a b o e f =
     let p =
     leaving-same rows rows' resident resident' touched touched' log log' db db' clog clog' frames frames' (record { number = a.number; head = a.value })
     (record { number = b.number; head = b.value }) o e f in

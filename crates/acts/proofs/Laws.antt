@@ -228,7 +228,19 @@ module _ (P : ℕ) (c : Call) (s : Lent) (log db clog frames : List ℕ) where
             ∙ ap (λ (vs : List ℕ). record { number = odd_no P s log db clog frames; values = vs }) (none-values k (odd_no P s log db clog frames))
         go false e = told-done P big k c (store_of s) log db clog frames r t (ready-fine e) (q ∙ told-ready k)
 
--- ---- a call that is not refused has number 0 as it is made ready
+-- ---- read as not refused: the number is 0
+
+-- what is left, cut or told
+abbrev left_0 : Left → Left
+left_0 x = leaving 0 x.store x.log x.db x.clog x.frames
+
+abbrev cut_0 : Carried → Carried
+cut_0 x = record { number = 0; files = x.files }
+
+abbrev told_0 : ToldCall → ToldCall
+told_0 x = record { number = 0; values = x.values }
+
+-- the three kinds of calls made ready are then what they are
 
 pub bare-accepted : (m : Made) (x : Change) (h : Head) → m ≡ bare_made 0 x h → accepted m ≡ bare_made 0 x h
 unfolding bare_made
@@ -244,16 +256,6 @@ meta-accepted m plan back slot x h e = ap accepted e
 
 -- ---- the ways out of making ready
 
--- what is left, cut or told, with number 0
-abbrev none_said : Left → Left
-none_said x = leaving 0 x.store x.log x.db x.clog x.frames
-
-abbrev none_cut : Carried → Carried
-none_cut x = record { number = 0; files = x.files }
-
-abbrev told_none : ToldCall → ToldCall
-told_none x = record { number = 0; values = x.values }
-
 -- what `?` hands on
 pub handed-made : (h : Head) (a : Result Made Refusal) (r : Refusal) → IsErr a × IsErrAnd a (λ e. e ≡ r) → made_of h a ≡ bare_made (number_of r) Same h
 handed-made h a r e = ap (made_of h) (handed-on a r e)
@@ -268,19 +270,18 @@ module _ (P : ℕ) (c : Call) (s : Lent) (log db clog frames : List ℕ) where
 
   -- of one that was not refused it has number 0, whatever its value says
   module _ (m : Made) (is : made_in P (accepted m) s.rows s.resident s.touched log db clog frames ≡ ready_lent P c s log db clog frames) where
-    left-accepted : none_said (left_by P (made_in P m s.rows s.resident s.touched log db clog frames) log db clog) ≡
+    left-accepted : left_0 (left_by P (made_in P m s.rows s.resident s.touched log db clog frames) log db clog) ≡
         left_by P (made_in P (accepted m) s.rows s.resident s.touched log db clog frames) log db clog
     unfolding left_by made_in carried_out readied framed ready_in after_in counted_head store_of
     left-accepted = refl
 
-    pub accepted-left : (x : Left) → x ≡ left_by P (made_in P m s.rows s.resident s.touched log db clog frames) log db clog → none_said x ≡ called_lent P c s log db clog frames
-    accepted-left x e = ap none_said e ∙ left-accepted ∙ ap (λ (y : Readied). left_by P y log db clog) is ∙ left-called P c s log db clog frames
+    pub accepted-left : (x : Left) → x ≡ left_by P (made_in P m s.rows s.resident s.touched log db clog frames) log db clog → left_0 x ≡ called_lent P c s log db clog frames
+    accepted-left x e = ap left_0 e ∙ left-accepted ∙ ap (λ (y : Readied). left_by P y log db clog) is ∙ left-called P c s log db clog frames
 
     pub accepted-cut : (k : ℕ) (x : Numbered Lens) (log' db' clog' : List ℕ) → cut_of (cut_as x) log' db' clog' ≡ cut_made P k m log db clog frames →
         cut_of (cut s.head.lens (Ok x.value)) log' db' clog' ≡ cut_lent P k c s log db clog frames
     unfolding cut_made
-    accepted-cut k x log' db' clog' e =
-        ap none_cut e ∙ cut-called P c s log db clog frames (accepted m) is k
+    accepted-cut k x log' db' clog' e = ap cut_0 e ∙ cut-called P c s log db clog frames (accepted m) is k
 
     pub accepted-count : (x : Numbered ℕ) → counted_as x ≡ counted_made m → counted (Ok x.value) ≡ counted_lent P c s log db clog frames
     unfolding counted_made
@@ -288,7 +289,7 @@ module _ (P : ℕ) (c : Call) (s : Lent) (log db clog frames : List ℕ) where
 
     pub accepted-told : 36 ≤ P → (k : ℕ) (x : Numbered (Option Telling)) → told_as x ≡ told_made P k m → told_by (Ok x.value) ≡ told_lent P k c s log db clog frames
     unfolding told_as told_by told_made
-    accepted-told big k x e = told-called P c s log db clog frames (accepted m) is big k (Ok x.value) (ap told_none e)
+    accepted-told big k x e = told-called P c s log db clog frames (accepted m) is big k (Ok x.value) (ap told_0 e)
 
   module _ (r : Refusal) (is : made_in P (bare_made (number_of r) Same s.head) s.rows s.resident s.touched log db clog frames ≡ ready_lent P c s log db clog frames) where
     abbrev no : Made

@@ -94,10 +94,10 @@ told_same a b c f g =
 
 -- the same of a call of any number, as it was made ready
 module _ (log db clog log' db' clog' : List ℕ) where
-  pub carried_same : (a b : Numbered Store) (frames frames' : List ℕ) (o : Outcome) →
+  pub carried-same : (a b : Numbered Store) (frames frames' : List ℕ) (o : Outcome) →
       outcome (changed_as a) log db clog frames ≡ o → outcome (changed_as b) log' db' clog' frames' ≡ o →
       (a ≡ b) × (log ≡ log') × (db ≡ db') × (clog ≡ clog') × (frames ≡ frames')
-  carried_same a b frames frames' o e f =
+  carried-same a b frames frames' o e f =
       let p = e ∙ sym f in (
         ap (λ (x : Outcome). record { number = x.number; value = x.store }) p,
         ap (λ (x : Outcome). x.log) p,
@@ -106,9 +106,9 @@ module _ (log db clog log' db' clog' : List ℕ) where
         ap (λ (x : Outcome). x.frames) p,
       )
 
-  pub stopped-same : (a b : Numbered Lens) (c : Carried) → cut_of (cut_as a) log db clog ≡ c → cut_of (cut_as b) log' db' clog' ≡ c →
+  pub halted-same : (a b : Numbered Lens) (c : Carried) → cut_of (cut_as a) log db clog ≡ c → cut_of (cut_as b) log' db' clog' ≡ c →
       (a ≡ b) × (log ≡ log') × (db ≡ db') × (clog ≡ clog')
-  stopped-same a b c e f =
+  halted-same a b c e f =
       let p = e ∙ sym f in (
         ap (λ (x : Carried). record { number = x.number; value = lens_of x.files }) p,
         ap (λ (x : Carried). x.files.log.bytes) p,
@@ -116,12 +116,12 @@ module _ (log db clog log' db' clog' : List ℕ) where
         ap (λ (x : Carried). x.files.clog.bytes) p,
       )
 
-pub numbered-same : (a b : Numbered ℕ) → counted_as a ≡ counted_as b → a ≡ b
-numbered-same a b e = ap (λ (x : Counted). record { number = x.number; value = x.stores }) e
+pub tallied-same : (a b : Numbered ℕ) → counted_as a ≡ counted_as b → a ≡ b
+tallied-same a b e = ap (λ (x : Counted). record { number = x.number; value = x.stores }) e
 
-pub telling_same : (a b : Numbered (Option Telling)) (c : ToldCall) → told_as a ≡ c → told_as b ≡ c → a ≡ b
+pub retold-same : (a b : Numbered (Option Telling)) (c : ToldCall) → told_as a ≡ c → told_as b ≡ c → a ≡ b
 unfolding told_as
-telling_same a b c f g =
+retold-same a b c f g =
     let e = f ∙ sym g in
     ap (λ (n : ℕ). record { number = n; value = a.value }) (ap (λ (x : ToldCall). x.number) e)
     ∙ ap (λ (t : Option Telling). record { number = b.number; value = t }) (telling-same a.value b.value (ap (λ (x : ToldCall). x.values) e))

@@ -93,8 +93,8 @@ abbrev cut_in : ℕ → Files → Carried
 cut_in n f = record { number = n; files = f }
 
 -- what comes out, with number 0
-abbrev none_said : Outcome → Outcome
-none_said o = record { number = 0; store = o.store; log = o.log; db = o.db; clog = o.clog; frames = o.frames }
+abbrev outcome_0 : Outcome → Outcome
+outcome_0 o = record { number = 0; store = o.store; log = o.log; db = o.db; clog = o.clog; frames = o.frames }
 
 module _ (P : ℕ) (r : Ready) (frames log db clog : List ℕ) (cut : Cut) (log' db' clog' : List ℕ) where
   pub cut-files : (k : ℕ) → cut_of cut log' db' clog' ≡ carried P (drop 0 (meant P frames r.plan)) (k - 0) (files_of r.store.lens log db clog) →
@@ -123,9 +123,7 @@ pub cut-lens : (n : Lens) (a : Result Lens Refusal) → (cut n a).lens ≡ resul
 cut-lens n (Ok at) = refl
 cut-lens n (Err r) = refl
 
--- a call with no stores, and the two kinds of accepted calls with stores
-
--- each of them has number 0 as it is
+-- a call with no stores, and the two kinds of accepted calls with stores: read as not refused, each is what it is
 
 pub nothing-accepted : (r : Ready) (s : Store) → r ≡ idle 0 s → accepted r ≡ idle 0 s
 unfolding idle
@@ -398,14 +396,14 @@ module _ (P : ℕ) (c : Call) (s : Store) (log db clog frames : List ℕ) where
 
   -- what is made of a call that was not refused has number 0, whatever its value says
   module _ (r : Ready) (is : readied P (accepted r) log db clog frames ≡ ready_for P c s log db clog frames) where
-    out-accepted : none_said (carried_out P (readied P r log db clog frames) log db clog) ≡ carried_out P (readied P (accepted r) log db clog frames) log db clog
+    out-accepted : outcome_0 (carried_out P (readied P r log db clog frames) log db clog) ≡ carried_out P (readied P (accepted r) log db clog frames) log db clog
     unfolding carried_out readied framed
     out-accepted = refl
 
     pub accepted-called : (x : Numbered Store) (log' db' clog' frames' : List ℕ) →
         outcome (changed_as x) log' db' clog' frames' ≡ carried_out P (readied P r log db clog frames) log db clog →
         outcome (changed s (Ok x.value)) log' db' clog' frames' ≡ called P c s log db clog frames
-    accepted-called x log' db' clog' frames' e = ap none_said e ∙ out-accepted ∙ ap (λ (p : Prepared). carried_out P p log db clog) is ∙ ready-called
+    accepted-called x log' db' clog' frames' e = ap outcome_0 e ∙ out-accepted ∙ ap (λ (p : Prepared). carried_out P p log db clog) is ∙ ready-called
 
     cut-accepted : (k : ℕ) → cut_in 0 (cut_at P k (readied P r log db clog frames) log db clog).files ≡ cut_at P k (readied P (accepted r) log db clog frames) log db clog
     unfolding cut_at readied

@@ -3,7 +3,7 @@ use mathlib.Core.Path.{refl, sym, ◌∙◌}
 use native.Mathlib.Omega.{arith}
 use lib.Dec.{lit≤, lit<}
 use Rattle.clog.proofs.Refusals.{fit-means}
-use Rattle.clog.proofs.Ways.{handed-on}
+use Rattle.fields.proofs.AnswerLaws.{handed-on}
 use Rattle.xacts.specs.Calls.{write_no}
 use Rattle.xacts.proofs.Ways.{first-told, rest-told, write-tests}
 use Rattle.xacts.proofs.check_write.Goals as goal
@@ -30,7 +30,7 @@ whole_pages-requires c = let f = fit-means 8 _ c.args.len (sym c.bad_length.ensu
 pub returns-in_err-refuse_if : goal.returns-in_err-refuse_if
 returns-in_err-refuse_if c =
     let a = c.args in
-    rw (handed-on _ _ c.from_residual.ensures.1) (first-told _ _ 19 _ c.in_err-refuse_if.ensures
+    rw (handed-on _ _ c.from_residual.ensures) (first-told _ _ 19 _ c.in_err-refuse_if.ensures
     ∙ write-tests 8192 a.mark a.clog.now a.len a.size (sym c.bad_length.ensures ∙ c.if-bad_length.false) (lit≤ tt) _ _ _ c.has_slot-active.ensures c.whole_pages.ensures refl)
 
 pub returns : goal.returns
