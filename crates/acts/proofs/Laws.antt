@@ -268,15 +268,20 @@ module _ (P : ℕ) (c : Call) (s : Lent) (log db clog frames : List ℕ) where
 
   -- ---- what comes of a call that was made ready, and of one that was refused, is the call
 
-  -- of one that was not refused it has number 0, whatever its value says
+  -- what is left of one that is the call's as it was made ready, of whatever number
+  pub accepted-left : (m : Made) → made_in P m s.rows s.resident s.touched log db clog frames ≡ ready_lent P c s log db clog frames → (x : Left) →
+      x ≡ left_by P (made_in P m s.rows s.resident s.touched log db clog frames) log db clog → x ≡ called_lent P c s log db clog frames
+  accepted-left m is x e = e ∙ ap (λ (y : Readied). left_by P y log db clog) is ∙ left-called P c s log db clog frames
+
+  -- of one that is the call's when it is read as not refused, whatever number its value says
   module _ (m : Made) (is : made_in P (accepted m) s.rows s.resident s.touched log db clog frames ≡ ready_lent P c s log db clog frames) where
     left-accepted : left_0 (left_by P (made_in P m s.rows s.resident s.touched log db clog frames) log db clog) ≡
         left_by P (made_in P (accepted m) s.rows s.resident s.touched log db clog frames) log db clog
     unfolding left_by made_in carried_out readied framed ready_in after_in counted_head store_of
     left-accepted = refl
 
-    pub accepted-left : (x : Left) → x ≡ left_by P (made_in P m s.rows s.resident s.touched log db clog frames) log db clog → left_0 x ≡ called_lent P c s log db clog frames
-    accepted-left x e = ap left_0 e ∙ left-accepted ∙ ap (λ (y : Readied). left_by P y log db clog) is ∙ left-called P c s log db clog frames
+    pub accepted-out : (x : Left) → x ≡ left_by P (made_in P m s.rows s.resident s.touched log db clog frames) log db clog → left_0 x ≡ called_lent P c s log db clog frames
+    accepted-out x e = ap left_0 e ∙ accepted-left (accepted m) is _ left-accepted
 
     pub accepted-cut : (k : ℕ) (x : Numbered Lens) (log' db' clog' : List ℕ) → cut_of (cut_as x) log' db' clog' ≡ cut_made P k m log db clog frames →
         cut_of (cut s.head.lens (Ok x.value)) log' db' clog' ≡ cut_lent P k c s log db clog frames

@@ -3,7 +3,7 @@ use mathlib.Core.Path.{refl}
 use Rattle.std.specs.Prelude.{Err}
 use Rattle.world.specs.Calls.{Begin}
 use Rattle.lent.specs.Lent.{lent}
-use Rattle.acts.proofs.Laws.{accepted-left, refused-left}
+use Rattle.acts.proofs.Laws.{accepted-out, refused-left}
 use Rattle.begins.proofs.begin.Goals as goal
 
 pub returns-in-Err : goal.returns-in-Err
@@ -14,4 +14,4 @@ returns-in-Err c =
 pub returns-in-Ok : goal.returns-in-Ok
 returns-in-Ok c =
     let a = c.args in
-    accepted-left 4096 (Begin a.id) (lent a.h a.rows.now a.resident.now a.touched.now) a.log.now a.db.now a.clog.now a.frames.now c.in-Ok.m c.in-Ok.ensures _ c.carry_out.ensures
+    accepted-out 4096 (Begin a.id) (lent a.h a.rows.now a.resident.now a.touched.now) a.log.now a.db.now a.clog.now a.frames.now c.in-Ok.m c.in-Ok.ensures _ c.carry_out.ensures
